@@ -5,6 +5,7 @@
 # make gate     everything: every proof and wrong body from the sources, then the tests; what a merge has to pass
 # make layout   tells in a minute which files the gate would refuse for their layout alone
 # make fuzz     COUNT made texts, words and files each, a tenth as many systems and databases, and each allocation of each command refused in turn
+# make soak HOURS=H    looks for faults for H hours (fractions too) with made cases; what it tried and found is added to soak.log
 # make pictures draws each example into docs/pictures, and writes docs/GALLERY.md
 # make tables   writes the tables of commands and of crates, the manual page's synopsis and the completions
 # make bench    measures beside a lean Rust program, where there is a rustc
@@ -14,6 +15,7 @@ PREFIX ?= /usr/local
 SHARE := $(DESTDIR)$(PREFIX)/share
 JOBS ?= $(shell nproc)
 COUNT ?= 100000
+HOURS ?= 1
 ALL := 1000000000
 export PAVER := $(CURDIR)/paver
 export PYTHONPATH := $(CURDIR)/python
@@ -74,6 +76,9 @@ fuzz: paver
 	COUNT=$(ALL) python3 -m tests.runners.allocations
 	COUNT=$(ALL) python3 -m tests.runners.campaign_allocations
 
+soak: paver
+	python3 -m tests.soak --hours $(HOURS) --jobs $(JOBS) --log soak.log
+
 dist: paver
 	build/dist.sh ./paver
 
@@ -93,4 +98,4 @@ uninstall:
 clean:
 	rm -rf paver demo dist crates/*/out
 
-.PHONY: all try demo test gate layout tables pictures fuzz bench dist install uninstall clean
+.PHONY: all try demo test gate layout tables pictures fuzz soak bench dist install uninstall clean

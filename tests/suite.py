@@ -26,12 +26,13 @@ TOP = Path(__file__).resolve().parents[1]
 SIDE_BY_SIDE = (
     "crashes", "rendered", "end_to_end", "shares", "campaigns", "allocations", "campaign_allocations", "fuzz_systems",
     "fuzz_words", "fuzz_files", "fuzz_reader", "fuzz_databases", "paving_files", "stores", "tables", "readme",
-    "least_values", "package_control", "package_decide", "package_fit", "package_holes", "package_path", "package_robot",
-    "reader_table", "formats", "forms", "reading", "listed",
+    "least_values", "package_control", "package_decide", "package_fit", "package_holes", "package_installed", "package_path",
+    "package_robot", "faulty_calls", "schedules", "fuzz_options", "soaking", "reader_table", "scenes", "formats", "forms",
+    "hints", "reading", "listed",
 )
 ALONE = ("test_python", "outside", "limits", "sizes", "workers", "progress", "sweep", "scaling", "test_view", "first_look")
 # Modules of the folder that are no runners: what runners share.
-SHARED = ("running", "browser", "package_test", "soundness", "view_pixels")
+SHARED = ("running", "browser", "package_test", "soundness", "trapping", "view_pixels")
 
 COUNTED = re.compile(r"^(\d+) passed, (\d+) failed", re.M)
 SKIPPED = re.compile(r"(^|: )skipped[:,]")

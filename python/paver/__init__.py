@@ -13,7 +13,7 @@ from .box import Box, Cluster
 from .canonical import System
 from .control import Control, control, control_text
 from .control_text import ControlRefused
-from .decide import Decisions, Largest, Tolerance, decide
+from .decide import Ball, Decisions, Largest, Tolerance, decide
 from .errors import (
     ContractRefused, Disagree, FolderRefused, KeeperFault, NoFile, NotInProgram, ObjectiveRefused, PaverError, PavingError,
     PavingRefused, ProgramFault, ProgramMissing, ReadFault, SystemEdited, SystemRefused, TaskLost, TreeLimit, UsageError,
@@ -43,14 +43,14 @@ from .view import View, view
 from .widen import widened, widened_contract, widened_file
 
 __all__ = [
-    "Answer", "Bounds", "Box", "Cluster", "ContractRefused", "Control", "ControlRefused", "Decisions", "Disagree", "Fit",
-    "FitRefused", "FolderRefused", "Gathered", "KeeperFault", "Largest", "Levels", "NoFile", "NotInProgram", "NotRobust",
-    "ObjectiveRefused", "Parts", "Path", "PathFault", "PaverError", "Paving", "PavingError", "PavingRefused", "ProgramFault",
-    "ProgramMissing", "Progress", "Projection", "ReadFault", "RobotRefused", "Robust", "Root", "Sweep", "System",
-    "SystemEdited", "SystemRefused", "TaskLost", "Tolerance", "TreeLimit", "UsageError", "Verdict", "View", "WantOfMemory",
-    "WriteFault", "__version__", "audit", "audit_centered", "campaign", "check", "check_text", "control", "control_text",
-    "decide", "depth_that_suffices", "draw", "find", "find_roots", "fit", "gather", "least", "least_by_levels", "merge", "path",
-    "plot", "plot_projection", "project", "report", "resume", "robot", "robust", "run", "run_centered", "run_text", "sample",
-    "scaled_text", "split", "svg", "sweep", "undecided", "vertices_text", "view", "warnings_of", "widened", "widened_contract",
-    "widened_file",
+    "Answer", "Ball", "Bounds", "Box", "Cluster", "ContractRefused", "Control", "ControlRefused", "Decisions", "Disagree",
+    "Fit", "FitRefused", "FolderRefused", "Gathered", "KeeperFault", "Largest", "Levels", "NoFile", "NotInProgram",
+    "NotRobust", "ObjectiveRefused", "Parts", "Path", "PathFault", "PaverError", "Paving", "PavingError", "PavingRefused",
+    "ProgramFault", "ProgramMissing", "Progress", "Projection", "ReadFault", "RobotRefused", "Robust", "Root", "Sweep",
+    "System", "SystemEdited", "SystemRefused", "TaskLost", "Tolerance", "TreeLimit", "UsageError", "Verdict", "View",
+    "WantOfMemory", "WriteFault", "__version__", "audit", "audit_centered", "campaign", "check", "check_text", "control",
+    "control_text", "decide", "depth_that_suffices", "draw", "find", "find_roots", "fit", "gather", "least", "least_by_levels",
+    "merge", "path", "plot", "plot_projection", "project", "report", "resume", "robot", "robust", "run", "run_centered",
+    "run_text", "sample", "scaled_text", "split", "svg", "sweep", "undecided", "vertices_text", "view", "warnings_of",
+    "widened", "widened_contract", "widened_file",
 ]

@@ -4,6 +4,7 @@ from __future__ import annotations
 import argparse
 import os
 import sys
+import warnings
 from collections.abc import Callable, Iterable, Iterator, Mapping
 from contextlib import contextmanager
 from fractions import Fraction
@@ -17,12 +18,13 @@ from . import (
 from .advice import limits_of, stored_sentences, warnings_of
 from .cover import KEPT, Cover, Name
 from .ibex import translate
-from .identity import UNSAID
+from .identity import UNSAID, found_settings, taken
 from .kept import is_database
 from .numbers import as_float, counted, printable
 from .options import COMMANDS, KEPT_SETTINGS
 from .paving import Paving
 from .picture import svg
+from .planes import axis, others_of, values_of
 from .plots import drawing, plot, plot_projection, rectangles
 from .roots import ONE, TESTED, NotSquare, find_roots
 from .split import gather, split
@@ -35,6 +37,7 @@ from .widen import claim_of_roots, roots_width, widened, widened_file
 
 UNCOMPARED = "the paving has no identity, as printed text has none: that it is this system's is not compared."
 MOST_BYTES = 1 << 22  # of a file for IBEX
+MOST_TOUCHING = 200_000  # boxes whose parts summary counts unasked
 
 if TYPE_CHECKING:
     Commands = argparse._SubParsersAction[argparse.ArgumentParser]
@@ -58,12 +61,15 @@ def paving_of(arguments: argparse.Namespace, sentences: Callable[[program.Answer
         paving = answer.paving()
         return paving, sentences(answer, paving)
     system = program.check(arguments.system, program=arguments.program)
-    given, stored = options_of(arguments, KEPT_SETTINGS), beside.identity_of(arguments.paving)
+    stored, strict = beside.identity_of(arguments.paving), getattr(arguments, "strict", False)
     identity = None if stored is None or getattr(arguments, "any_identity", False) else UNSAID
-    paving = Paving.read(arguments.paving, system=system, identity=identity, **given)
+    settings, words = beside.with_kept([arguments.paving], options_of(arguments, KEPT_SETTINGS)), None
+    if identity is UNSAID and not strict:
+        settings, words = found_settings(system, stored, settings)
+    paving = Paving.read(arguments.paving, system=system, identity=identity, strict=strict, **settings)
     paving.check_numbers()
-    settings = {**options_of(arguments), **beside.with_kept([arguments.paving], given)}
-    found = stored_sentences(paving, settings, is_database(arguments.paving))
+    found = [taken(arguments.paving, words)] if words else []
+    found += stored_sentences(paving, {**options_of(arguments), **settings}, is_database(arguments.paving))
     return paving, [UNCOMPARED, *found] if paving.identity is None else found
 
 
@@ -152,6 +158,7 @@ def summary(arguments: argparse.Namespace) -> int:
     """Prints counts, volumes, hull and the widest small box of a paving, and on demand its clusters."""
     paving, warnings = paving_of(arguments)
     print_summary(paving, arguments.clusters)
+    print_parts(paving)
     report_undecided(paving, program.check(arguments.system, program=arguments.program))
     report(warnings)
     return 0
@@ -170,6 +177,14 @@ def print_summary(paving: Cover, clusters: bool = False, file: TextIO | None = N
         print(f"widest small box {as_float(widest.width, True):.9g}: {widest!r}", file=file)
 
 
+def print_parts(paving: Cover) -> None:
+    """Prints into how many parts that don't touch the kept boxes fall, and the inner ones: the set has points in each of the
+    latter, and none between the former."""
+    counts = paving.counts()
+    if sum(counts[kind] for kind in KEPT) <= MOST_TOUCHING:
+        print(f"parts kept {len(paving.clusters())} inner {len(paving.clusters('inner'))}")
+
+
 def export(arguments: argparse.Namespace) -> int:
     """Prints the paving of a campaign's database as a stored file, which the program's audit, merge, resume and svg take."""
     sys.stdout.write(Paving.read(arguments.paving).file_text())
@@ -178,7 +193,7 @@ def export(arguments: argparse.Namespace) -> int:
 
 def robust_of(arguments: argparse.Namespace) -> int:
     """Says for which values of a system's other variables all constraints hold for all values of some."""
-    return robust_command.work(arguments, values_of)
+    return robust_command.work(arguments)
 
 
 def project_of(arguments: argparse.Namespace) -> int:
@@ -211,26 +226,12 @@ def path_of(arguments: argparse.Namespace) -> int:
     return path_command.work(arguments, paving_of, report)
 
 
-def values_of(words: Iterable[str]) -> dict[str, Fraction]:
-    """The numbers that words as z=0.5 give for names; ValueError where one is no such word."""
-    found: dict[str, Fraction] = {}
-    for word in words:
-        name, equals, number = word.partition("=")
-        try:
-            found[name] = Fraction(number)
-        except (ValueError, ZeroDivisionError):
-            equals = ""
-        if not equals:
-            raise ValueError(f"--at {word}: a variable and its number are expected, as --at z=0.5")
-    return found
-
-
 def plot_command(arguments: argparse.Namespace) -> int:
     """Draws a slice, or the projection on two variables, into a picture file: SVG by the package itself, other forms by
     matplotlib where it is installed."""
     paving, warnings = paving_of(arguments)
-    at: dict[Name, Fraction] = {name: value for name, value in values_of(arguments.at or []).items()}
-    x, y = (int(word) if word.isdigit() else word for word in (arguments.x, arguments.y))
+    x, y = axis(arguments.x), axis(arguments.y)
+    at = values_of(arguments.at or [], others_of(paving.names or [], (x, y)))
     title = Path(arguments.system).stem
     if not arguments.project:
         rectangles(paving, x, y, at)  # which refuses what can't be drawn
@@ -320,7 +321,8 @@ def parser() -> argparse.ArgumentParser:
     drawn.add_argument("--picture", required=True, help="the file to write, as ring.png")
     drawn.add_argument("--x", default="0", help="a variable's name or number")
     drawn.add_argument("--y", default="1")
-    drawn.add_argument("--at", action="append", metavar="NAME=VALUE", help="the value of another variable")
+    drawn.add_argument("--at", action="append", metavar="NAME=VALUE", help="the value of another variable, or the numbers of "
+                       "all others in order, with commas")
     drawn.add_argument("--near", action="store_true", help="axes around what is kept")
     drawn.add_argument("--stretch", action="store_true", help="scales that are not equal")
     drawn.add_argument("--project", action="store_true", help="the projection in place of a slice")
@@ -330,6 +332,12 @@ def parser() -> argparse.ArgumentParser:
 
 def compared(command: argparse.ArgumentParser) -> None:
     command.add_argument("--any-identity", action="store_true", help="take a file without comparing its identity")
+    strictly(command)
+
+
+def strictly(command: argparse.ArgumentParser) -> None:
+    command.add_argument("--strict", action="store_true", help="refuse a file of other settings than those given, though they "
+                         "are found")
 
 
 def more_commands(commands: Commands) -> None:
@@ -365,6 +373,7 @@ def more_commands(commands: Commands) -> None:
     reported.add_argument("paving", help="a stored paving")
     decide_command.add_options(reported)
     run_options(reported, KEPT_SETTINGS)
+    strictly(reported)
     parted = add("split", split_command)
     parted.add_argument("system")
     parted.add_argument("--parts", type=int, required=True)
@@ -404,9 +413,11 @@ def main(words: Iterable[str] | None = None) -> int:
         print("paver: standard output is closed", file=sys.stderr)
         return 6
     try:
-        status = arguments.work(arguments)
+        with warnings.catch_warnings():
+            warnings.showwarning = in_a_line
+            status = arguments.work(arguments)
         sys.stdout.flush()
-        return status
+        return int(status)
     except errors.SystemRefused as fault:
         refused = refused_name(arguments)
         print("\n".join(explain.of_refused_system(refused, explain.text_of(refused), fault)), file=sys.stderr)
@@ -426,6 +437,11 @@ def main(words: Iterable[str] | None = None) -> int:
         if isinstance(fault, OSError):
             silent()
         return 2
+
+
+def in_a_line(message: Warning | str, *_: Any) -> None:
+    """Shows a warning as the commands show what they note."""
+    print(f"note: {one_line(str(message))}", file=sys.stderr)
 
 
 def refused_name(arguments: argparse.Namespace) -> str:

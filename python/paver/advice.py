@@ -13,6 +13,7 @@ if TYPE_CHECKING:
     from .program import Answer
 
 MOST_DEPTH = 200
+ANEW = ("run", "run-centered", "least")  # whose budget, where none is given, is the limit that is
 
 
 def depth_of(settings: Mapping[str, Any]) -> int:
@@ -86,8 +87,8 @@ def root_pairs(paving: Cover) -> List[Tuple[Exact, Exact]]:
     return [pair for root in paving.search_boxes()[:1] for pair in Box("open", root).exact]
 
 
-STORED = ("go on from a file that --out stored by `paver resume SYSTEM FILE --out FILE2` with the settings of its run, or take a "
-          "larger eps")
+STORED = ("go on from a file that --out stored by `paver resume SYSTEM FILE --out FILE2` with the settings of its run, or take "
+          "a larger eps")
 MORE = "give more by --boxes (a paving has at most {most} settled nodes)"
 WAYS = {
     "run": f"{MORE}, {STORED}",
@@ -100,19 +101,33 @@ WAYS = {
 FULL = "a paving has at most {most} settled nodes: split the box (`python3 -m paver split`), or take a larger eps"
 
 
-def budget_warning(command: str, counts: Mapping[str, int], boxes: Optional[int], most: int = MOST_BOXES) -> Optional[str]:
-    """The sentence on the open leaves that a command left; None where no leaf is open."""
+def budget_warning(command: str, counts: Mapping[str, int], boxes: Optional[int], most: int = MOST_BOXES, share: str = ""
+                   ) -> Optional[str]:
+    """The sentence on the open leaves that a command left, with the share of the search box that they hold; None where no leaf
+    is open."""
     if not counts["open"]:
         return None
     full = counts["settled"] >= most or command != "merge" and (boxes or 0) >= most
     ended = "the join has open leaves" if command == "merge" else "the budget ended the run"
-    return f"{ended}: {open_in_words(counts)} To go on: {(FULL if full else WAYS[command]).format(most=most)}."
+    return f"{ended}: {open_in_words(counts, share)} To go on: {(FULL if full else WAYS[command]).format(most=most)}."
 
 
-def open_in_words(counts: Mapping[str, int]) -> str:
+def open_in_words(counts: Mapping[str, int], share: str = "") -> str:
     """What open leaves leave unsaid."""
-    return (f"{counts['open']} leaves are open after {counts['settled']} settled nodes. What is printed or kept is "
+    return (f"{counts['open']} leaves are open after {counts['settled']} settled nodes{share}. What is printed or kept is "
             "right as far as it goes; an open leaf says nothing.")
+
+
+def open_share(paving: Cover) -> str:
+    """Which share of the search box the open leaves hold, in words: a few of them may hold most of it. Nothing where the box is
+    not known or has no volume."""
+    if not paving.boxes_known() or not paving.counts()["open"]:
+        return ""
+    volumes = paving.volumes()
+    whole = sum(volumes.values(), Fraction(0))
+    if isinstance(whole, float) or not whole:
+        return ""
+    return f", and they hold {100 * float(Fraction(volumes['open']) / whole):.3g} % of the search box"
 
 
 def stored_sentences(paving: Cover, settings: Mapping[str, Any], is_kept: bool = False) -> List[str]:
@@ -120,7 +135,7 @@ def stored_sentences(paving: Cover, settings: Mapping[str, Any], is_kept: bool =
     found, counts = [], paving.counts()
     if counts["open"]:
         way = WAYS["campaign"].format(most=limit_of(settings)) if is_kept else STORED
-        found.append(f"the paving is not whole: {open_in_words(counts)} To go on: {way}.")
+        found.append(f"the paving is not whole: {open_in_words(counts, open_share(paving))} To go on: {way}.")
     depth = depth_warning(paving, settings)
     return found + ([depth] if depth else [])
 
@@ -129,7 +144,10 @@ def limits_of(answer: Answer, paving: Cover) -> List[str]:
     """The sentences on what the budget and the depth left undone."""
     settings: Dict[str, Any] = answer.settings
     boxes = int(settings["boxes"]) if settings.get("boxes") else None
-    found = [budget_warning(answer.command, paving.counts(), boxes, limit_of(settings)), depth_warning(paving, settings)]
+    if boxes is None and settings.get("limit") and answer.command in ANEW:
+        boxes = limit_of(settings)
+    found = [budget_warning(answer.command, paving.counts(), boxes, limit_of(settings), open_share(paving)),
+             depth_warning(paving, settings)]
     return [sentence for sentence in found if sentence]
 
 

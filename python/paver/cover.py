@@ -204,10 +204,15 @@ class Cover:
             found += [Box.of(kind, table, ends, self.names) for kind, ends in best]
         return sorted(found, key=lambda box: -box.width)[:count]
 
-    def clusters(self, gap: Number = 0, kinds: Sequence[str] = KEPT) -> List[Cluster]:
-        """The boxes of some classes in groups that touch: two touch where they are at most gap apart in each place."""
+    def clusters(self, *words: Union[str, Number, Sequence[str]], gap: Number = 0, kinds: Sequence[str] = ()) -> List[Cluster]:
+        """The boxes of some classes (of what is kept, where none is named) in groups that touch: two touch where they are at
+        most gap apart in each place. Words are classes, as for boxes; the gap may be among them."""
         from .clusters import clusters_of
-        key = ("clusters", exact_number(gap), tuple(kinds_of(kinds)))
+        gaps = [word for word in words if not isinstance(word, str) and not isinstance(word, Sequence)]
+        named = [kind for word in words if isinstance(word, Sequence) for kind in ([word] if isinstance(word, str) else word)]
+        if len(gaps) > 1:
+            raise ValueError("clusters take one gap")
+        key = ("clusters", exact_number(gaps[0] if gaps else gap), kinds_of([*named, *kinds]) or KEPT)
         if key not in self._kept:
             self._kept[key] = clusters_of(self, key[1], key[2])
         return list(self._kept[key])
@@ -232,13 +237,15 @@ class Cover:
             raise ValueError(f"a point of {len(found)} numbers, where the paving has {self.dims} variables")
         return found
 
-    def where(self, point: Point) -> Set[str]:
-        """The classes of all boxes that hold a point, ends included, or `outside` where it lies outside the search box. Floats
-        are taken exactly."""
-        exact, found = self.point_of(point), set()
+    def where(self, point: Point, *kinds: str) -> Set[str]:
+        """The classes of all boxes that hold a point, ends included, or `outside` where it lies outside the search box; of some
+        classes alone where they are named. Floats are taken exactly."""
+        wanted, exact, found = kinds_of(kinds), self.point_of(point), set()
         for paving in self.pieces():
             paving.need_root()
             found |= classes_at(paving.tree, [paving.tree.table.place(x) for x in exact])
+        if wanted:
+            return found & set(wanted)
         return found or {"outside"}
 
     def variable(self, name: Name) -> int:

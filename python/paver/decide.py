@@ -1,11 +1,12 @@
-"""Decisions from a paving: the point that may move farthest and stay proved, and a largest box that is proved.
+"""Decisions from a paving: the point that may move farthest and stay proved, the largest ball and a largest box that are proved.
 
 A box is proved where inner leaves, which may be several, cover it: then each of its rational points is in the set. Lengths are
 measured in scales, one a variable: its width in the search box, or what is given. All of it is exact: whole numbers of the
-paving's unit, and places among its ends. The search for the greatest tolerance is branch and bound over the point: as the
-distance to the nearest part that is not proved changes by no more than the point moves (a Lipschitz function of constant 1 in
-the greatest scaled coordinate), its value at a cell's centre and the cell's radius bound it on the cell (Piyavskii and Shubert,
-1972). The package is tested and not proved; what is said rests on the paving's inner boxes.
+paving's unit, and places among its ends. The searches for the greatest tolerance and for the largest ball are branch and bound
+over the point: as the distance to the nearest part that is not proved changes by no more than the point moves (a Lipschitz
+function of constant 1), its value at a cell's centre and the cell's radius bound it on the cell (Piyavskii and Shubert, 1972).
+Distances are the greatest scaled coordinate for the one, and Euclid's of scaled coordinates for the other. The package is tested
+and not proved; what is said rests on the paving's inner boxes.
 """
 from __future__ import annotations
 
@@ -14,6 +15,7 @@ from dataclasses import dataclass
 from fractions import Fraction
 from functools import reduce
 from heapq import heappop, heappush, nlargest
+from operator import mul, sub
 from typing import Dict, Iterable, List, Mapping, Optional, Sequence, Tuple
 
 from .box import Number, exact_number
@@ -40,6 +42,16 @@ class Tolerance:
 
 
 @dataclass(frozen=True)
+class Ball:
+    """A point around which a ball is proved: all points with the sum of ((x - point) / scale)^2 at most radius^2. None around a
+    point of the search box has a radius above `most`; `reaches` says how far it goes in each variable."""
+    point: Tuple[Fraction, ...]
+    radius: Fraction
+    most: Fraction
+    reaches: Tuple[Fraction, ...]
+
+
+@dataclass(frozen=True)
 class Largest:
     """A proved box that no larger proved box holds, its centre, and its volume in scales: a part of the search box where the
     scales are its widths. It is the largest that was found; another may be larger."""
@@ -50,17 +62,18 @@ class Largest:
 
 @dataclass(frozen=True)
 class Decisions:
-    """What decide found, with the variables' names and scales. Both decisions are None where no inner box has a volume."""
+    """What decide found, with the variables' names and scales. All decisions are None where no inner box has a volume."""
     names: Tuple[str, ...]
     scales: Tuple[Fraction, ...]
     tolerance: Optional[Tolerance]
+    ball: Optional[Ball]
     largest: Optional[Largest]
 
 
 class Ground:
     """A tree whose inner leaves are proved ground. Variables whose search box is one point are left out of all lengths."""
 
-    def __init__(self, tree: Tree, scales: Sequence[Fraction]) -> None:
+    def __init__(self, tree: Tree, scales: Sequence[Fraction], unproved: Optional[List[Optional[Ends]]] = None) -> None:
         root = tree.boxes[0]
         assert root is not None
         self.tree, self.root = tree, root
@@ -70,7 +83,7 @@ class Ground:
         self.unit = 1 << tree.table.shift + FINER  # of a point
         self.whole = common * self.unit  # one scale, in the unit of distances
         self.values = tree.table.values
-        self.unproved = unproved_parts(tree)
+        self.unproved = unproved_parts(tree) if unproved is None else unproved
 
     def distance(self, point: Sequence[int], ends: Ends) -> int:
         """How far a point is from a box: the greatest of its scaled coordinates' distances."""
@@ -85,8 +98,12 @@ class Ground:
     def room(self, point: Sequence[int]) -> int:
         """How far a point is from the nearest part of positive volume that is not proved; 0 where none is proved around it.
         A point may be of fractions too."""
+        return self.nearest(point, max(0, self._within(point)))
+
+    def nearest(self, point: Sequence[int], best: int) -> int:
+        """The least distance, in the form of `distance`, from a point to a part that is not proved; `best` if none is less."""
         tree, unproved = self.tree, self.unproved
-        best, waiting = max(0, self._within(point)), [(0, 0)] if unproved[0] else []
+        waiting = [(0, 0)] if unproved[0] else []
         while waiting:
             far, k = waiting.pop()
             if far >= best:
@@ -169,6 +186,89 @@ class Ground:
         """The box of all points that differ from one by no more than the moves."""
         return tuple((x - move, x + move) for x, move in zip(point, moves))
 
+    def radius(self, sides: Sequence[int]) -> int:
+        """How far a point of a cell is from its centre at most, from the halves of its sides."""
+        return max(map(mul, sides, self.weights))
+
+    def improved(self, point: List[int]) -> Tuple[int, List[int]]:
+        """The room of a point, or of one nearby that has more: each variable in turn is put into the middle of where it may go."""
+        room = self.room(point)
+        for _ in range(4):
+            if not room:
+                break
+            other = list(point)
+            for k in self.free:
+                moves = [Fraction(room, self.weights[j] * self.unit) if self.weights[j] else Fraction(0)
+                         for j in range(len(point))]
+                places = self.places_of(self.around(self.exact(other), moves))
+                if not self.covered(places):
+                    break
+                low, high = (self.values[self.reach(places, k, up)] for up in (False, True))
+                other[k] = (low + high) << FINER - 1
+            better = self.room(other)
+            if better <= room:
+                break
+            room, point = better, other
+        return room, point
+
+
+class RoundGround(Ground):
+    """The same in Euclid's distance of scaled coordinates; `distance` gives its square, and what is not whole is rounded to the
+    safe side."""
+
+    def distance(self, point: Sequence[int], ends: Ends) -> int:
+        """The square of how far a point is from a box."""
+        found, values = 0, self.values
+        for k in self.free:
+            x = point[k]
+            far = max((values[ends[2 * k]] << FINER) - x, x - (values[ends[2 * k + 1]] << FINER)) * self.weights[k]
+            if far > 0:
+                found += far * far
+        return found
+
+    def room(self, point: Sequence[int]) -> int:
+        """As of a Ground, rounded down."""
+        square = self.nearest(point, max(0, self._within(point)) ** 2)
+        return math.isqrt(square.numerator // square.denominator)
+
+    def radius(self, sides: Sequence[int]) -> int:
+        """As of a Ground, rounded up; with the unit by which the room of the centre was rounded down."""
+        return math.isqrt(sum(side * side for side in map(mul, sides, self.weights))) + 2
+
+    def improved(self, point: List[int]) -> Tuple[int, List[int]]:
+        """The room of a point, or of one nearby that has more: steps along each variable, halved where none leads up."""
+        room = self.room(point)
+        step = room >> 1
+        while room and step > room >> 8:
+            best, at = room, point
+            for k in self.free:
+                for move in (step // self.weights[k], -(step // self.weights[k])):
+                    other = [*point[:k], point[k] + move, *point[k + 1:]]
+                    found = self.room(other)
+                    if found > best:
+                        best, at = found, other
+            if best == room:
+                step >>= 1
+            room, point = best, at
+        return room, point
+
+    def clear(self, point: Sequence[int], radius: int) -> bool:
+        """Whether inner leaves fill a ball: looked at anew, leaf by leaf."""
+        tree, square, waiting = self.tree, radius * radius, [0]
+        if self._within(point) < radius:
+            return False
+        while waiting:
+            k = waiting.pop()
+            box, to = tree.boxes[k], tree.tos[k]
+            assert box is not None
+            if self.distance(point, box) >= square:
+                continue
+            if tree.kinds[k] not in "CI" or to is None or any(self.distance(point, part) < square for part in cut_off(box, to)):
+                return False
+            if tree.kinds[k] == "C":
+                waiting += tree.halves(k)
+        return True
+
 
 def unproved_parts(tree: Tree) -> List[Optional[Ends]]:
     """Of each node the ends around all of its box that inner leaves don't fill; None where they fill it. So what lies along a
@@ -208,10 +308,10 @@ def cut_off(box: Ends, to: Ends) -> Iterable[Ends]:
 
 
 def decide(paving: Cover, scale: Optional[Mapping[Name, Number]] = None, tries: int = TRIES) -> Decisions:
-    """The point with the greatest tolerance and a largest proved box of one paving. scale gives lengths for some variables by
-    their names, in place of their widths in the search box. After `tries` measured points (at least 1) the search for the
-    tolerance ends; its bound holds all the same. ValueError for scales that are not positive, several search boxes, a variable
-    without a bounded domain, or where the search box is not known."""
+    """The point with the greatest tolerance, the largest proved ball and a largest proved box of one paving. scale gives lengths
+    for some variables by their names, in place of their widths in the search box. After `tries` measured points (at least 1) the
+    searches for the first two end; their bounds hold all the same. ValueError for scales that are not positive, several search
+    boxes, a variable without a bounded domain, or where the search box is not known."""
     if len(paving.roots()) != 1:
         raise ValueError("decide takes one paving of one search box")
     if isinstance(tries, bool) or not isinstance(tries, int) or tries < 1:
@@ -222,9 +322,10 @@ def decide(paving: Cover, scale: Optional[Mapping[Name, Number]] = None, tries: 
     ground = Ground(tree, scales)
     leaves = [ends for ends in tree.ends_of("I") if all(ends[2 * k] < ends[2 * k + 1] for k in ground.free)]
     if not leaves or not ground.free:
-        return Decisions(names, scales, None, None)
+        return Decisions(names, scales, None, None, None)
     tolerance = greatest_tolerance(ground, leaves, scales, tries)
-    return Decisions(names, scales, tolerance, largest_box(ground, leaves, scales, tolerance))
+    ball = largest_ball(RoundGround(tree, scales, ground.unproved), leaves, scales, tries)
+    return Decisions(names, scales, tolerance, ball, largest_box(ground, leaves, scales, tolerance))
 
 
 def scales_of(paving: Cover, given: Mapping[Name, Number]) -> Tuple[Fraction, ...]:
@@ -259,21 +360,41 @@ def middle(ground: Ground, ends: Ends) -> List[int]:
     return [(ground.values[ends[i]] + ground.values[ends[i + 1]]) << FINER - 1 for i in range(0, len(ends), 2)]
 
 
-def greatest_tolerance(ground: Ground, leaves: Sequence[Ends], scales: Sequence[Fraction], tries: int) -> Tolerance:
-    """Branch and bound over the point, begun at the centres of leaves that are wide in all variables."""
+def greatest_room(ground: Ground, leaves: Sequence[Ends], scales: Sequence[Fraction], tries: int
+                  ) -> Tuple[Tuple[Fraction, ...], Fraction, Fraction]:
+    """The point with the most room that was found, in few decimals, its room and a bound above that of all points, in scales:
+    by branch and bound, begun at the centres of leaves that are wide in all variables."""
     first = nlargest(min(CANDIDATES, tries), leaves, key=lambda ends: narrowest(ground, ends))
-    begun = max((moved(ground, middle(ground, ends)) for ends in first), key=lambda pair: pair[0])
+    begun = max((ground.improved(middle(ground, ends)) for ends in first), key=lambda pair: pair[0])
     lows = [ground.values[min(ends[2 * k] for ends in leaves)] << FINER for k in range(ground.tree.dims)]
     highs = [ground.values[max(ends[2 * k + 1] for ends in leaves)] << FINER for k in range(ground.tree.dims)]
     best, point, most = branched(ground, begun, (lows, highs), tries)
     shorter = few_digits(ground, point, best, scales)
     room = ground.room([x * ground.unit for x in shorter])  # type: ignore[misc]
-    share = Fraction(room) / ground.whole
-    moves = tuple(share * scales[k] if k in ground.free else Fraction(0) for k in range(ground.tree.dims))
-    box = ground.around(shorter, moves)
+    return shorter, Fraction(room) / ground.whole, Fraction(most) / ground.whole
+
+
+def reaches(ground: Ground, share: Fraction, scales: Sequence[Fraction]) -> Tuple[Fraction, ...]:
+    """A share of the scales as lengths: 0 of variables whose search box is one point."""
+    return tuple(share * scales[k] if k in ground.free else Fraction(0) for k in range(ground.tree.dims))
+
+
+def greatest_tolerance(ground: Ground, leaves: Sequence[Ends], scales: Sequence[Fraction], tries: int) -> Tolerance:
+    """The point whose variables may move farthest all at once, with its box."""
+    point, share, most = greatest_room(ground, leaves, scales, tries)
+    moves = reaches(ground, share, scales)
+    box = ground.around(point, moves)
     if not ground.covered(ground.places_of(box)):
         raise AssertionError("a tolerance whose box is not covered by inner leaves")
-    return Tolerance(shorter, share, Fraction(most) / ground.whole, moves, box)
+    return Tolerance(point, share, most, moves, box)
+
+
+def largest_ball(ground: RoundGround, leaves: Sequence[Ends], scales: Sequence[Fraction], tries: int) -> Ball:
+    """The centre of the largest ball in scaled coordinates."""
+    point, radius, most = greatest_room(ground, leaves, scales, tries)
+    if not ground.clear([x * ground.unit for x in point], int(radius * ground.whole)):  # type: ignore[misc]
+        raise AssertionError("a largest ball that is not covered by inner leaves")
+    return Ball(point, radius, most, reaches(ground, radius, scales))
 
 
 def branched(ground: Ground, begun: Tuple[int, List[int]], cell: Tuple[List[int], List[int]], tries: int
@@ -287,10 +408,9 @@ def branched(ground: Ground, begun: Tuple[int, List[int]], cell: Tuple[List[int]
         centre = [low + high >> 1 for low, high in zip(lows, highs)]
         room = ground.room(centre)
         if room > best:
-            best, point = max((room, centre), moved(ground, centre), key=lambda pair: pair[0])
-        radius = max((high - x) * weight for x, high, weight in zip(centre, highs, ground.weights))
+            best, point = max((room, centre), ground.improved(centre), key=lambda pair: pair[0])
         made += 1
-        heappush(waiting, (-min(above, room + radius), made, lows, highs))
+        heappush(waiting, (-min(above, room + ground.radius(list(map(sub, highs, centre)))), made, lows, highs))
 
     add(*cell, ground.whole * (1 << 40))
     while count < tries and -waiting[0][0] * (1 - NEAR) > best:
@@ -301,28 +421,6 @@ def branched(ground: Ground, begun: Tuple[int, List[int]], cell: Tuple[List[int]
         add([*lows[:k], at, *lows[k + 1:]], highs, -bound)
         count += 2
     return best, point, max(best, -waiting[0][0])
-
-
-def moved(ground: Ground, point: List[int]) -> Tuple[int, List[int]]:
-    """The room of a point, or of one nearby that has more: each variable in turn is put into the middle of where it may go."""
-    room = ground.room(point)
-    for _ in range(4):
-        if not room:
-            break
-        other = list(point)
-        for k in ground.free:
-            moves = [Fraction(room, ground.weights[j] * ground.unit) if ground.weights[j] else Fraction(0)
-                     for j in range(len(point))]
-            places = ground.places_of(ground.around(ground.exact(other), moves))
-            if not ground.covered(places):
-                break
-            low, high = (ground.values[ground.reach(places, k, up)] for up in (False, True))
-            other[k] = (low + high) << FINER - 1
-        better = ground.room(other)
-        if better <= room:
-            break
-        room, point = better, other
-    return room, point
 
 
 def few_digits(ground: Ground, point: Sequence[int], room: int, scales: Sequence[Fraction]) -> Tuple[Fraction, ...]:

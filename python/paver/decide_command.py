@@ -65,24 +65,28 @@ def boxes_in_words(found: Decisions, box: Pairs, exactly: bool) -> list[str]:
 
 def lines_of(found: Decisions, exactly: bool = False) -> list[str]:
     """What `decide` prints."""
-    tolerance, largest = found.tolerance, found.largest
-    if tolerance is None or largest is None:
+    tolerance, ball, largest = found.tolerance, found.ball, found.largest
+    if tolerance is None or ball is None or largest is None:
         return [NOTHING + "."]
     share, most = digits(tolerance.share, False), digits(tolerance.most, True)
     lines = [f"greatest tolerance: all variables may move at once by {share} of their scales, and no point allows above {most}"]
     for name, x, move, scale in zip(found.names, tolerance.point, tolerance.moves, found.scales):
         shown = str(move) if exactly else digits(move, False)
         lines.append(f"  {name} = {spelled(x, exactly)} +- {shown}, scale {spelled(scale, exactly)}")
+    radius, most = digits(ball.radius, False), digits(ball.most, True)
+    lines.append(f"largest ball: radius {radius} in scales, and around no point one above {most}")
+    for name, x, reach in zip(found.names, ball.point, ball.reaches):
+        lines.append(f"  {name} = {spelled(x, exactly)}, reaching {reach if exactly else digits(reach, False)}")
     lines.append(f"largest box found: volume {digits(largest.volume, False)} in scales")
     for text, x in zip(boxes_in_words(found, largest.box, exactly), largest.point):
         lines.append(f"  {text}, centre {spelled(x, exactly)}")
-    lines.append("each rational point of both boxes is in the set: inner boxes of the paving cover them")
+    lines.append("each rational point of the ball and of both boxes is in the set: inner boxes of the paving cover them")
     return lines
 
 
 def decide_command(arguments: argparse.Namespace, paving_of: PavingOf) -> int:
-    """Prints the point whose variables may move farthest and stay proved, and a largest proved box. Status 1 where there is
-    none."""
+    """Prints the point whose variables may move farthest and stay proved, the largest proved ball, and a largest proved box.
+    Status 1 where there is none."""
     scales = scales_of(arguments.scale or [])
     paving, warnings = paving_of(arguments)
     found = decide(paving, scales, arguments.tries)
@@ -96,5 +100,5 @@ def report_command(arguments: argparse.Namespace, options: Mapping[str, str]) ->
     """Prints one page of HTML on a stored paving, for a design review."""
     from .report import report
     sys.stdout.write(report(arguments.system, arguments.paving, scale=scales_of(arguments.scale or []), tries=arguments.tries,
-                            program=arguments.program, **options))
+                            program=arguments.program, strict=arguments.strict, **options))
     return 0

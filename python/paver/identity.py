@@ -4,7 +4,7 @@ from __future__ import annotations
 import hashlib
 from fractions import Fraction
 from itertools import product
-from typing import Any, Dict, Iterator, Mapping, Optional, Tuple, Union
+from typing import Any, Dict, Iterator, List, Mapping, Optional, Tuple, Union
 
 from .canonical import System
 from .errors import PavingRefused
@@ -44,6 +44,31 @@ def identity_of(system: System, settings: Mapping[str, Any]) -> str:
     return hashlib.sha256((system.text + settings_text(complete(settings))).encode()).hexdigest()
 
 
+def forms_of(settings: Mapping[str, Any]) -> List[str]:
+    """The forms that a paving by these settings may have: either, where none is given."""
+    return [settings["form"]] if settings.get("form") else list(CHOICES["form"])
+
+
+def found_settings(system: System, stored: Optional[str], settings: Mapping[str, Any]) -> Tuple[Dict[str, Any], Optional[str]]:
+    """The settings of a file: these, or those near at hand under which the file is the system's; then with the words for
+    those that differ."""
+    if stored is None or stored in [identity_of(system, {**settings, "form": form}) for form in forms_of(settings)]:
+        return dict(settings), None
+    asked = complete(settings)
+    found = searched(system, stored, asked)
+    return (dict(settings), None) if found is None else (dict(found), difference(found, asked))
+
+
+def difference(found: Mapping[str, str], asked: Mapping[str, str]) -> str:
+    """The options of settings that differ from those that are asked for."""
+    return " ".join(f"--{name} {word}" for name, word in found.items() if word != asked[name])
+
+
+def taken(name: str, words: str) -> str:
+    """The sentence on settings that were found."""
+    return f"{name} is this system's with {words}: that is taken (--strict refuses it)"
+
+
 def compared(stored: Optional[str], system: Optional[System], wanted: Identity, settings: Mapping[str, Any], name: str) -> None:
     """PavingRefused where a file's identity is not the wanted one: that of the system under the settings, whose form may be
     either where it is not given."""
@@ -57,8 +82,7 @@ def compared(stored: Optional[str], system: Optional[System], wanted: Identity, 
             raise refusal(name, "wrong identity", f"it is {stored}, and {wanted} is wanted")
         return
     assert system is not None
-    forms = [settings["form"]] if settings.get("form") else list(CHOICES["form"])
-    if stored not in [identity_of(system, {**settings, "form": form}) for form in forms]:
+    if stored not in [identity_of(system, {**settings, "form": form}) for form in forms_of(settings)]:
         raise refusal(name, "wrong identity", reason(system, stored, settings))
 
 
@@ -74,8 +98,7 @@ def reason(system: System, stored: str, settings: Mapping[str, Any]) -> str:
     found = searched(system, stored, asked)
     if found is None:
         return f"the file is of another system, or of other settings than {said}; give those of its run"
-    other = " ".join(f"--{name} {word}" for name, word in found.items() if word != asked[name])
-    return f"it is this system's with {other}, and the settings here are {said}"
+    return f"it is this system's with {difference(found, asked)}, and the settings here are {said}"
 
 
 def searched(system: System, stored: str, asked: Mapping[str, str]) -> Optional[Dict[str, str]]:

@@ -3,6 +3,7 @@ from __future__ import annotations
 
 import os
 import re
+import warnings
 from itertools import accumulate, repeat
 from operator import indexOf
 from typing import Any, BinaryIO, Dict, Iterable, List, Mapping, Optional, Sequence, Tuple, Union
@@ -11,7 +12,7 @@ from . import kept
 from .box import Box
 from .cover import Cover
 from .errors import PavingError
-from .identity import UNSAID, Identity, compared
+from .identity import UNSAID, Identity, compared, found_settings, taken
 from .numbers import NumberError, parts, rounded
 from .canonical import System
 from .tree import FOLLOW, Tree
@@ -78,13 +79,14 @@ class Paving(Cover):
     def read(cls, path: PathName, *, root: Optional[Root] = None, names: Optional[List[str]] = None,
              system: Union[System, PathName, None] = None, program: Optional[str] = None, identity: Identity = UNSAID,
              eps: Any = None, depth: Any = None, bisect: Optional[str] = None, contract: Optional[str] = None,
-             form: Optional[str] = None) -> Paving:
+             form: Optional[str] = None, strict: bool = False) -> Paving:
         """Reads a file: a stored paving, printed text, or the database of a campaign. system is what program.check gave, or the
         path of a system's file, which is then checked.
 
-        With a system the file's identity is compared with the system's under these settings: PavingRefused where it is another.
-        Settings that aren't given are those that run kept beside the file, else the program's own. identity is the one that is
-        wanted; identity=None compares nothing, which printed text needs, as it has none."""
+        With a system the file's identity is compared with the system's under these settings. Settings that aren't given are
+        those that run kept beside the file, else the program's own. Where it is another, settings near at hand are tried, and a
+        warning names those that it has; PavingRefused where none is found, or with strict. identity is the one that is wanted;
+        identity=None compares nothing, which printed text needs, as it has none."""
         from . import beside
         if isinstance(system, (str, os.PathLike)):
             from .program import check
@@ -98,6 +100,10 @@ class Paving(Cover):
                 text = whole_text(head, file)
         given = {"eps": eps, "depth": depth, "bisect": bisect, "contract": contract, "form": form}
         settings = {**beside.settings_of(path), **{key: value for key, value in given.items() if value is not None}}
+        if isinstance(system, System) and identity is UNSAID and not strict:
+            settings, words = found_settings(system, beside.identity_of(path), settings)
+            if words:
+                warnings.warn(taken(os.fspath(path), words), stacklevel=2)
         return cls.from_text(text, root=root, names=names, system=system, identity=identity, name=str(path), settings=settings)
 
     def file_text(self) -> str:

@@ -122,11 +122,16 @@ class Answer:
         return html_of(self.paving(), f"{self.command} of {self.system.name}{in_words(self.paving())}", self.warnings())
 
 
+def plain_environment() -> Dict[str, str]:
+    """The environment in which the program says no more than its line, to which the package adds sentences of its own."""
+    return {**os.environ, "PAVER_HINTS": "0"}
+
+
 def call(words: Sequence[Any], program: Optional[str] = None, timeout: Optional[float] = None) -> Tuple[int, str, str]:
     """Runs the program with the words, and gives its status, standard output and standard error as texts."""
     path = find(program)
     done = subprocess.run([path, *map(str, words)], stdin=subprocess.DEVNULL, stdout=subprocess.PIPE,
-                          stderr=subprocess.PIPE, timeout=timeout, check=False)
+                          stderr=subprocess.PIPE, timeout=timeout, check=False, env=plain_environment())
     return done.returncode, done.stdout.decode("utf-8"), done.stderr.decode("utf-8", "replace").rstrip("\n")
 
 

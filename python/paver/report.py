@@ -3,6 +3,7 @@ from __future__ import annotations
 
 import os
 import shlex
+import warnings
 from collections.abc import Iterable, Mapping, Sequence
 from fractions import Fraction
 from html import escape
@@ -15,7 +16,7 @@ from .canonical import System
 from .cover import Name, Pairs
 from .decide import TRIES, Decisions, decide
 from .decide_command import NOTHING, boxes_in_words, digits, spelled
-from .identity import complete, identity_of
+from .identity import complete, found_settings, identity_of, taken
 from .numbers import as_float, exact, printable
 from .options import KEPT_SETTINGS, words_of
 from .paving import Paving
@@ -43,15 +44,20 @@ TRUSTED = (
 
 
 def report(system: str | os.PathLike[str], paving: str | os.PathLike[str], *, scale: Mapping[Name, Any] | None = None,
-           tries: int = TRIES, program: str | None = None, **settings: Any) -> str:
+           tries: int = TRIES, program: str | None = None, strict: bool = False, **settings: Any) -> str:
     """The page on a stored paving of a system's file. Its settings are those that run kept beside it, where they aren't given;
-    scale and tries are those of decide. PavingRefused where the file is another system's, or of other settings or none;
-    what decide refuses is a ValueError."""
+    scale and tries are those of decide. Settings near at hand are found, unless strict, and a warning names them. PavingRefused
+    where the file is another system's, of settings that weren't found, or of none; what decide refuses is a ValueError."""
     known = check(system, program=program)
     given = {name: value for name, value in settings.items() if value is not None}
-    read = Paving.read(paving, system=known, **given)
+    its, other = beside.with_kept([paving], given), None
+    if not strict:
+        its, other = found_settings(known, beside.identity_of(paving), its)
+    if other:
+        warnings.warn(taken(os.fspath(paving), other), stacklevel=2)
+    read = Paving.read(paving, system=known, strict=strict, **its)
     read.check_numbers()
-    kept = {name: word for name, word in words_of(beside.with_kept([paving], given)).items() if name in KEPT_SETTINGS}
+    kept = {name: word for name, word in words_of(its).items() if name in KEPT_SETTINGS}
     if kept.get("form") is None and read.identity == identity_of(known, {**kept, "form": "centered"}):
         kept["form"] = "centered"
     found = decide(read, scale, tries)
@@ -155,16 +161,20 @@ def volumes_part(paving: Paving) -> str:
 
 
 def decisions_part(found: Decisions) -> str:
-    """Both decisions with their boxes."""
-    tolerance, largest = found.tolerance, found.largest
-    if tolerance is None or largest is None:
+    """The decisions with their boxes and the ball."""
+    tolerance, ball, largest = found.tolerance, found.ball, found.largest
+    if tolerance is None or ball is None or largest is None:
         return f"<p>{escape(NOTHING)}.</p>"
     rows = [(safe(name), spelled(x, False), digits(move, False), spelled(scale, False)) for name, x, move, scale in
             zip(found.names, tolerance.point, tolerance.moves, found.scales)]
+    balls = [(safe(name), spelled(x, False), digits(reach, False)) for name, x, reach in
+             zip(found.names, ball.point, ball.reaches)]
     boxes = [(safe(text), spelled(x, False)) for text, x in zip(boxes_in_words(found, largest.box, False), largest.point)]
     return (f"<p>Greatest tolerance: at this point all variables may move at once by {digits(tolerance.share, False)} of their "
             f"scales, up or down, and stay proved. No point of the search box allows above {digits(tolerance.most, True)} in "
             "this paving.</p>\n" + table(rows, ("variable", "value", "may move by", "scale"))
+            + f"\n<p>Largest ball, measured in scales: its radius is {digits(ball.radius, False)}, and around no point one above "
+            f"{digits(ball.most, True)} is proved in this paving.</p>\n" + table(balls, ("variable", "centre", "reaches"))
             + f"\n<p>Largest box found: its volume in scales is {digits(largest.volume, False)}. No larger proved box holds "
             "it.</p>\n" + table(boxes, ("proved", "centre")))
 

@@ -3,13 +3,15 @@ from __future__ import annotations
 
 import argparse
 import sys
-from collections.abc import Callable, Mapping
+from collections.abc import Mapping
 from fractions import Fraction
 from pathlib import Path
 
 from .numbers import as_float
 from .picture import svg
+from .planes import axis, need_plane, others_of, values_of
 from .plots import Name, Number
+from .program import check
 from .robust import SHOWN, Robust, robust, vertices_text
 from .widen import widened_file
 
@@ -29,10 +31,11 @@ def add_options(command: argparse.ArgumentParser) -> None:
     command.add_argument("--picture", metavar="FILE.svg", help="a picture: sure green, refuted grey, the rest yellow")
     command.add_argument("--x", default="0", help="a variable's name or number")
     command.add_argument("--y", default="1")
-    command.add_argument("--at", action="append", metavar="NAME=VALUE", help="the value of another variable in the picture")
+    command.add_argument("--at", action="append", metavar="NAME=VALUE", help="the value of another variable in the picture, or "
+                         "the numbers of all others in order, with commas")
 
 
-def work(arguments: argparse.Namespace, values_of: Callable[[list[str]], dict[str, Fraction]]) -> int:
+def work(arguments: argparse.Namespace) -> int:
     """Says for which values of a system's other variables all constraints hold for all values of these. Status 1 where the
     budget ended the run."""
     names = [name.strip() for name in arguments.for_all.split(",")]
@@ -40,7 +43,7 @@ def work(arguments: argparse.Namespace, values_of: Callable[[list[str]], dict[st
         with widened_file(arguments.system, arguments.widen, program=arguments.program) as (path, _):
             sys.stdout.write(vertices_text(path, names, program_path=arguments.program))
         return 0
-    at: dict[Name, Number] = {name: value for name, value in values_of(arguments.at or []).items()}
+    x, y, at = plane_of(arguments, names)
     options = {name: getattr(arguments, name) for name in OPTIONS if getattr(arguments, name) is not None}
     found = robust(arguments.system, names, vertices=not arguments.boxes_alone, widen=arguments.widen,
                    program_path=arguments.program, **options)
@@ -49,12 +52,23 @@ def work(arguments: argparse.Namespace, values_of: Callable[[list[str]], dict[st
         with open(arguments.csv, "w", newline="", encoding="utf-8") as file:
             found.write_regions(file, arguments.exactly)
     if arguments.picture:
-        x, y = (int(word) if word.isdigit() else word for word in (arguments.x, arguments.y))
         Path(arguments.picture).write_text(picture_of(found, x, y, at, Path(arguments.system).stem))
     if found.status:
         print(f"note: the budget ended the run, and {found.paving.counts()['open']} leaves are open: they are in the rest. "
               "More --boxes or a larger eps goes on", file=sys.stderr)
     return found.status
+
+
+def plane_of(arguments: argparse.Namespace, parameters: list[str]) -> tuple[Name, Name, dict[Name, Fraction]]:
+    """The axes of the picture and the values of the other variables. What the picture would refuse is refused at once, and not
+    when all has been worked out."""
+    x, y = axis(arguments.x), axis(arguments.y)
+    if not arguments.picture:
+        return x, y, {}
+    names = [name for name in check(arguments.system, program=arguments.program).names if name not in parameters]
+    at = values_of(arguments.at or [], others_of(names, (x, y)))
+    need_plane(names, (x, y), at)
+    return x, y, at
 
 
 def picture_of(found: Robust, x: str | int, y: str | int, at: Mapping[Name, Number], title: str) -> str:

@@ -132,7 +132,7 @@ class Part:
         """Its paving. PavingRefused where the answer is another system's or has other settings than all parts."""
         known = check(self.path, program=self.program)
         identity = None if self.answer.suffix == ".txt" else self.identity
-        return Paving.read(self.answer, system=known, identity=identity, **dict(self.settings))
+        return Paving.read(self.answer, system=known, identity=identity, strict=True, **dict(self.settings))
 
 
 def manifest_of(folder: Path) -> Dict[str, Any]:

@@ -120,7 +120,8 @@ def need_text(folder: str, digest: str) -> None:
 
 def called(words: List[str]) -> Tuple[int, Dict[str, int]]:
     """The status, 0 or 1, and the counts of a call of the program that stores its paving."""
-    with subprocess.Popen(words, stdin=subprocess.DEVNULL, stdout=subprocess.PIPE, stderr=subprocess.PIPE, text=True) as child:
+    with subprocess.Popen(words, stdin=subprocess.DEVNULL, stdout=subprocess.PIPE, stderr=subprocess.PIPE, text=True,
+                          env={**os.environ, "PAVER_HINTS": "0"}) as child:
         running.append(child)
         out, line = child.communicate()
         running.remove(child)

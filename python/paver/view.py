@@ -8,6 +8,7 @@ import csv
 import hashlib
 import json
 import os
+import warnings
 from html import escape
 from pathlib import Path
 from typing import Any, Callable, Dict, Iterable, Mapping, Sequence, Tuple, Union
@@ -17,6 +18,7 @@ from . import program as calls
 from .box import exact_number
 from .canonical import System
 from .errors import PavingError
+from .identity import found_settings, taken
 from .numbers import Exact, as_float
 from .options import CHOICES, DEFAULTS, SETTINGS
 from .packed import packed
@@ -155,7 +157,10 @@ def read_one(given: One, system: System, settings: dict[str, Any]) -> tuple[Pavi
         if paving.identity is None:  # it was printed: it is that of the answer's own system
             paving.identity = given.known.identity(**known)
         return paving, given.command, {**settings, **known}
-    return Paving.read(given, system=system, identity=None), Path(given).name, beside.with_kept([given], settings)
+    known, words = found_settings(system, beside.identity_of(given), beside.with_kept([given], settings))
+    if words:
+        warnings.warn(taken(os.fspath(given), words), stacklevel=3)
+    return Paving.read(given, system=system, identity=None), Path(given).name, known
 
 
 # Names of stored files or of campaigns' databases, Pavings and Answers: one, several, or none for a run.

@@ -5,6 +5,18 @@ be written its line and a word of the form.
 """
 
 TAKEN = [
+    ("square roots alone on one side", """variables
+  x in [0, 4], y in [0, 4];
+constraints
+  sqrt(x + y) <= x - 1;
+  sqrt(x*y) < 2;
+  sqrt(x) >= y - 1;
+  1 < sqrt(y);
+  sqrt(x) = y;
+end
+""", """Variables x in [0,4], y in [0,4];
+Constraints x + y <= (x - 1)^2; x + y >= 0; x - 1 >= 0; x*y < 4; x*y >= 0;
+max(x - (y - 1)^2, 1 - y) >= 0; x >= 0; y > 1; x = y^2; y >= 0; end"""),
     ("square roots, one in a local assignment", """variables
   x in [0, 4], y in [0, 4];
 function d(a, b)

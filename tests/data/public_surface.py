@@ -47,6 +47,8 @@ print(fitted.text, fitted.contract, fitted.groups[0][0].line, fitted.outliers)
 decided: paver.Decisions = paver.decide(paving, {"x": 1}, tries=100)
 if decided.tolerance is not None and decided.largest is not None:
     print(decided.tolerance.point, decided.tolerance.share, decided.tolerance.most, decided.largest.box, decided.scales)
+ball = decided.ball
+print(None if ball is None else (ball.point, ball.radius, ball.most, ball.reaches))
 reported: str = paver.report("s.mbx", "f", scale={"x": Fraction(1)}, eps=0.5)
 print(reported)
 try:

@@ -61,6 +61,100 @@ ROBUST_HEAD = """
 [`robust`](ANSWERS.md#for-all-values-of-some-variables) asks for which values of the other variables all constraints hold, whatever those of `--for-all` are. Green is sure; grey is refuted, each box by one choice of their values; yellow is neither. `--picture FILE.svg` draws it.
 """
 
+# In place of {NAME} the file NAME of examples/ is shown.
+DECIDED = """
+## From an engineer's words to a decision
+
+`..` stands for lines that are left out.
+
+### Cruise control
+
+> My car's speed control has to settle soon and must not swing. Which gains do I solder, how exactly?
+
+```
+{cruise.txt}
+$ python3 -m paver control examples/cruise.txt > cruise.mbx
+$ paver run cruise.mbx --eps 0.0625 --out cruise.paving
+settled 817 cut 408 removed 12 inner 181 small 216 open 0
+$ python3 -m paver decide cruise.mbx cruise.paving --eps 0.0625
+greatest tolerance: all variables may move at once by 0.1925 of their scales, and no point allows above 0.195313
+  kp = 3.22 +- 0.77, scale 4
+  ki = 2.68 +- 0.77, scale 4
+..
+```
+
+He solders 3.22 and 2.68 from parts of 20%.
+
+### Welder
+
+> How does my welding arm swing from straight ahead to straight left, past the pillar?
+
+```
+{welder.txt}
+$ python3 -m paver robot examples/welder.txt --clear --rotation half > welder.mbx
+$ paver run welder.mbx --eps 0.03125 --out welder.paving
+settled 1815 cut 907 removed 64 inner 486 small 358 open 0
+$ python3 -m paver path welder.mbx welder.paving --eps 0.03125 --from 0,0 --to 1,0 --csv welder.csv
+path of 15 points through 46 inner boxes, length 2.34115701
+  t_shoulder = 0, t_elbow = 0
+  t_shoulder = -0.062561, t_elbow = 0.25
+..
+```
+
+He drives along `welder.csv`: the elbow bends to 86 degrees meanwhile.
+
+### Spring
+
+> I read a spring's length under six loads, to 0.8 mm, and may have slipped once. How stiff is it?
+
+```
+{spring.txt}
+$ python3 -m paver fit examples/spring.txt examples/spring.csv --yerr 0.8 --outliers 1 > spring.mbx
+$ paver run spring.mbx --eps 0.02 --contract 'qinter(5,hc4(0),hc4(1),hc4(2),hc4(3),hc4(4),hc4(5))' --out spring.paving
+settled 793 cut 396 removed 8 inner 179 small 210 open 0
+$ python3 -m paver fit examples/spring.txt examples/spring.csv --yerr 0.8 --outliers 1 --report --paving spring.paving --eps 0.02
+..
+give in [2.397569444444444, 2.6140000000000003]; inner boxes reach over [2.4267578125, 2.5958593750000003]
+..
+  leaves out line 5, load = 8: 142.3 <= length <= 143.9
+..
+```
+
+He reports 2.39 to 2.62 mm a newton, and reads 8 N again.
+
+### Shelf
+
+{shelf}
+
+```
+$ paver run examples/shelf.mbx --eps 1 --out shelf.paving
+settled 5007 cut 2503 removed 14 inner 544 small 1946 open 0
+$ python3 -m paver project examples/shelf.mbx shelf.paving --eps 1 --onto reach,height --csv shelf.csv
+some 79 boxes, area 492.70068: reach, height with which some value of the others is in the set
+..
+$ grep some shelf.csv | sort -t, -k3,3g -k5,5gr | tail -n 1
+some,30.625,31.25,32.5,33.125
+```
+
+He builds 31 cm, on 33 mm.
+
+### Ship
+
+> My autopilot has to hold the heading at all speeds and loads, and must not swing. Which gains?
+
+```
+{ship.txt}
+$ python3 -m paver control examples/ship.txt > ship.mbx
+$ python3 -m paver robust ship.mbx --for-all edge --eps 0.0625
+..
+sure are at least 89.6% of what holds for all values
+$ python3 -c "import paver; print(max(paver.robust('ship.mbx', ['edge'], eps='0.0625').sure, key=lambda one: one.box.volume).box)"
+<inner [0.85, 1.96502] x [2.1875, 2.75]>
+```
+
+He sets kp = 1.4 and kd = 2.47, the middle of that box.
+"""
+
 ASKED = """
 ## Questions on an answer
 
@@ -114,7 +208,7 @@ True
 ```
 $ paver run examples/ring.mbx --eps 0.25 --out ring.paving
 ..
-$ python3 -m paver summary examples/ring.mbx ring.paving --eps 0.5
+$ python3 -m paver summary examples/ring.mbx ring.paving --eps 0.5 --strict
 paver: paving ring.paving: wrong identity: it is this system's with --eps 0.25, and the settings here are eps 0.5, depth 60, bisect largest, contract prop(8), form plain.
 $ python3 -m paver summary examples/two_discs.mbx ring.paving --eps 0.25
 paver: paving ring.paving: wrong identity: the file is of another system, or of other settings than eps 0.25, depth 60, bisect largest, contract prop(8), form plain; give those of its run.
@@ -285,6 +379,12 @@ Drawn with `{drawn.removeprefix(" ".join(words[:2])).strip()}`.
 """
 
 
+def decided_part() -> str:
+    """Five questions with their files, from words to a decision."""
+    text = DECIDED.replace("{shelf}", question_of("shelf"))
+    return re.sub(r"\{(\w+\.txt)\}", lambda found: (TOP / "examples" / found[1]).read_text().strip(), text)
+
+
 def main() -> None:
     found, drawn, answers = summaries(), drawings(), least_answers()
     text = HEAD + "".join(entry(name, words, found[name], drawn[name]) for name, words in EXAMPLES)
@@ -292,7 +392,7 @@ def main() -> None:
     for name, searches in groupby(LEAST, key=lambda search: search[0]):
         text += least_entry(name, [words for _, words in searches], answers)
     text += levels_part() + ROBUST_HEAD + "".join(robust_entry(name, words, robust_answers()[name]) for name, words in ROBUST)
-    (TOP / "docs" / "GALLERY.md").write_text(text + ASKED)
+    (TOP / "docs" / "GALLERY.md").write_text(text + decided_part() + ASKED)
 
 
 if __name__ == "__main__":

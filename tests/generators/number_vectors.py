@@ -125,6 +125,11 @@ def pairs(rng: random.Random) -> Iterator[tuple[Value, Value]]:
         yield first, rng.choice([some(rng), near(rng, first)])
 
 
+# Products below the least number, and sums past the greatest mantissa and the greatest number, rounded to both sides.
+ROUNDED = [("Mul", 1, 1), ("Add", TOP, TOP), ("Add", number((1 << 62) - 1, 0), UNIT),
+           ("Add", number((1 << 62) - 1, 0), number(1, 1))]
+
+
 def cases() -> Iterator[tuple[str, Parts, Parts, str, Parts]]:
     rng = random.Random(20091)
     for i, (a, b) in enumerate(pairs(rng)):
@@ -133,6 +138,9 @@ def cases() -> Iterator[tuple[str, Parts, Parts, str, Parts]]:
             if name == "Div" and b == 0:
                 continue
             yield name, parts(a), parts(b), side, parts(op(a, b, side))
+    for name, a, b in ROUNDED:
+        for side in ("Down", "Up"):
+            yield name, parts(a), parts(b), side, parts((mul if name == "Mul" else add)(a, b, side))
 
 
 HEADING = """//! Cases of exact arithmetic. Written by tests/generators/number_vectors.py: change them there.

@@ -10,16 +10,14 @@ and a file that is stored is whole. Needs a C compiler, and is skipped where the
 from __future__ import annotations
 
 import random
-import shutil
-import subprocess
 import tempfile
-import unittest
 from collections.abc import Sequence
 from pathlib import Path
 
 from tests.data.cases import HALF_LINE, RECIPROCAL, system
 from tests.runners.paving_files import A, B, QUARTER, TWO_DISCS, file_of
 from tests.runners.running import Answered, FolderTest, made_cases, main, rows
+from tests.runners.trapping import shared_object
 
 SAMPLE = 24  # allocations of a command that are refused, where COUNT doesn't say how many
 
@@ -81,22 +79,8 @@ def sample_of(numbers: Sequence[int]) -> list[int]:
     return sorted({*random.Random(seed).sample(numbers, most), *numbers[-1:]})
 
 
-class RefusingTest(FolderTest):
-    """A test in which allocations of the program are refused, and counted in a file beside its folder."""
-    shim: Path
-    counted: Path
-
-    @classmethod
-    def setUpClass(cls) -> None:
-        """Builds the shared object that refuses allocations."""
-        compiler = shutil.which("cc")
-        if not compiler:
-            raise unittest.SkipTest("there is no C compiler here")
-        made = tempfile.TemporaryDirectory()
-        cls.addClassCleanup(made.cleanup)
-        cls.shim, cls.counted = Path(made.name) / "refuse.so", Path(made.name) / "count"
-        source = Path(__file__).with_name("refuse_allocation.c")
-        subprocess.run([compiler, "-O1", "-shared", "-fPIC", str(source), "-o", str(cls.shim)], check=True)
+class CommandsTest(FolderTest):
+    """A test over the files that the listed commands read."""
 
     def try_all(self, listed: dict[str, Command]) -> None:
         """Each command in a folder of its own."""
@@ -105,11 +89,6 @@ class RefusingTest(FolderTest):
                 folder = self.elsewhere(made)
                 folder.prepare()
                 folder.try_command(*command)
-
-    def refusing(self, words: list[str], **refuse: int) -> Answered:
-        environment = {"LD_PRELOAD": str(self.shim), "REFUSE_COUNT": str(self.counted),
-                       **{name.upper(): str(value) for name, value in refuse.items()}}
-        return self.answered(*words, env=environment)
 
     def prepare(self) -> None:
         for name, text in (("s", SOLID), ("r", RECIPROCAL), ("d", TWO_DISCS), ("h", HALF_LINE), ("q", HALF_SQUARE),
@@ -124,6 +103,31 @@ class RefusingTest(FolderTest):
         self.call("run-centered", "s", *QUARTER, "--out", "centered")
         head = self.get("whole").split(b"\n")[:2]
         self.put("foul", b"\n".join([*head, b"I = =", b""]))
+
+    def try_command(self, status: int, words: list[str], stored: str) -> None:
+        """Tries a command that ends with this status, and stores a file."""
+        raise NotImplementedError
+
+    def remove(self, stored: str) -> None:
+        if stored:
+            (self.path / stored).unlink(missing_ok=True)
+
+
+class RefusingTest(CommandsTest):
+    """A test in which allocations of the program are refused, and counted in a file beside its folder."""
+    shim: Path
+    counted: Path
+
+    @classmethod
+    def setUpClass(cls) -> None:
+        """Builds the shared object that refuses allocations."""
+        cls.shim = shared_object(cls, "refuse_allocation.c")
+        cls.counted = cls.shim.with_name("count")
+
+    def refusing(self, words: list[str], **refuse: int) -> Answered:
+        environment = {"LD_PRELOAD": str(self.shim), "REFUSE_COUNT": str(self.counted),
+                       **{name.upper(): str(value) for name, value in refuse.items()}}
+        return self.answered(*words, env=environment)
 
     def try_command(self, status: int, words: list[str], stored: str) -> None:
         before = self.files()
@@ -141,10 +145,6 @@ class RefusingTest(FolderTest):
     def refused(self, count: int) -> Sequence[int]:
         """Which of so many allocations may be refused."""
         return range(1, count + 1)
-
-    def remove(self, stored: str) -> None:
-        if stored:
-            (self.path / stored).unlink(missing_ok=True)
 
     def judge(self, words: list[str], how: str, got: Answered, wanted: Answered, before: dict[str, bytes], stored: str,
               new: bytes | None) -> None:

@@ -17,8 +17,10 @@ import time
 from pathlib import Path
 from typing import Any
 
+from tests.runners.running import SECONDS
+
 NAMES = ("chromium", "chromium-browser", "google-chrome")
-WAIT = 60
+WAIT = SECONDS
 
 
 class BrowserFault(AssertionError):

@@ -9,7 +9,7 @@ file may change. Needs a C compiler, and is skipped where there is none.
 """
 from __future__ import annotations
 
-from tests.runners.allocations import Command, RefusingTest
+from tests.runners.allocations import Command, CommandsTest, RefusingTest
 from tests.runners.campaigns import ROWS, Row, identity_of, is_stage, make, stock
 from tests.runners.paving_files import QUARTER
 from tests.runners.running import Answered, main
@@ -34,20 +34,14 @@ COMMANDS = {
 }
 
 
-class CampaignAllocations(RefusingTest):
-    """Campaigns with allocations refused."""
-
-    def test_campaigns(self) -> None:
-        self.try_all(COMMANDS)
+class KeptTest(CommandsTest):
+    """A test over the databases that the listed campaigns begin, or go on with."""
 
     def prepare(self) -> None:
         super().prepare()
         self.begun = {"begun": (ROWS[:1], identity_of()), "others": (ROWS[:1], bytes(32))}
         for name in self.begun:
             self.remove(name)
-
-    def refused(self, count: int) -> list[int]:
-        return [n for n in range(1, count + 1) if n <= FIRST or n % 7 == 0 or n > count - LAST]
 
     def remove(self, stored: str) -> None:
         """The database as the call finds it."""
@@ -59,19 +53,15 @@ class CampaignAllocations(RefusingTest):
     def others(self, files: dict[str, bytes], stored: str) -> dict[str, bytes]:
         return {name: text for name, text in files.items() if name not in [stored + ending for ending in ENDINGS]}
 
-    def judge(self, words: list[str], how: str, got: Answered, wanted: Answered, before: dict[str, bytes], stored: str,
-              new: bytes | None) -> None:
-        """As of any command; the database is sound, and has the rows of whole rounds, of all where the answer is right."""
-        self.judge_answer(how, got, wanted)
-        self.assertEqual(self.others(self.files(), stored), self.others(before, stored), how)
+    def judge_rows(self, words: list[str], how: str, stored: str) -> list[Row]:
+        """The rows of a database that stock sqlite3 finds sound: those of whole rounds, and no fewer than before the call."""
         sound, rows = self.rows(stored)
         self.assertTrue(sound, how)
         boxes = int(words[words.index("--boxes") + 1])
         self.assertTrue(is_stage(rows, set(ROWS), 1 if stored in self.begun else boxes), (how, rows))
-        if got[0] != 7:
-            self.assertEqual(rows, self.wanted_rows, how)
         if stored in self.begun:
             self.assertLessEqual(set(self.begun[stored][0]), set(rows), how)
+        return rows
 
     def rows(self, stored: str) -> tuple[bool, list[Row]]:
         if not (self.path / stored).exists():
@@ -79,13 +69,37 @@ class CampaignAllocations(RefusingTest):
         sound, _, rows = stock(self.path, stored)
         return sound, rows
 
-    def try_command(self, status: int, words: list[str], stored: str) -> None:
+    def whole(self, status: int, words: list[str], stored: str) -> list[Row]:
+        """The rows that a call keeps to which nothing happens."""
         self.remove(stored)
         self.call(*words)
-        self.wanted_rows = self.rows(stored)[1]
+        rows = self.rows(stored)[1]
         if status == 0:
-            self.assertEqual(self.wanted_rows, ROWS, "where nothing is refused")
+            self.assertEqual(rows, ROWS, "where nothing happens")
         self.remove(stored)
+        return rows
+
+
+class CampaignAllocations(KeptTest, RefusingTest):
+    """Campaigns with allocations refused."""
+
+    def test_campaigns(self) -> None:
+        self.try_all(COMMANDS)
+
+    def refused(self, count: int) -> list[int]:
+        return [n for n in range(1, count + 1) if n <= FIRST or n % 7 == 0 or n > count - LAST]
+
+    def judge(self, words: list[str], how: str, got: Answered, wanted: Answered, before: dict[str, bytes], stored: str,
+              new: bytes | None) -> None:
+        """As of any command; the database is sound, and has the rows of whole rounds, of all where the answer is right."""
+        self.judge_answer(how, got, wanted)
+        self.assertEqual(self.others(self.files(), stored), self.others(before, stored), how)
+        rows = self.judge_rows(words, how, stored)
+        if got[0] != 7:
+            self.assertEqual(rows, self.wanted_rows, how)
+
+    def try_command(self, status: int, words: list[str], stored: str) -> None:
+        self.wanted_rows = self.whole(status, words, stored)
         super().try_command(status, words, stored)
 
 

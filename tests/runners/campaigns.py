@@ -5,6 +5,7 @@ stock sqlite3 reads and writes, and files that are no campaign's, locked, cut sh
 """
 from __future__ import annotations
 
+import contextlib
 import os
 import random
 import resource
@@ -26,7 +27,7 @@ from tests.reference import files
 from tests.reference.kinds import Tree
 from tests.reference.paver import node_line
 from tests.runners.paving_files import QUARTER, WHOLE_SUMMARY, call
-from tests.runners.running import SECONDS, FolderTest, Moments, made_cases, main
+from tests.runners.running import SECONDS, FolderTest, Moments, made_cases, main, processor_seconds
 
 KILLS = 50
 NOBODY = 65534
@@ -179,9 +180,9 @@ class Campaigns(FolderTest):
                         shutil.copyfile(self.path / f"made{end}", self.path / f"{file}{end}")
                     connection.close()
                     (self.path / "made").unlink()
-                    start = time.perf_counter()
+                    before = processor_seconds()
                     self.untouched(file)
-                    self.assertLess(time.perf_counter() - start, 5, f"{file}: something of it was run")
+                    self.assertLess(processor_seconds() - before, 5, f"{file}: something of it was run")
 
     def test_rows_with_no_identity(self) -> None:
         """A deleted identity makes nobody's rows one's own, and locks out no owner whose identity is put back."""
@@ -334,6 +335,10 @@ class Campaigns(FolderTest):
         for name, rows in whole.items():
             make(self.path / name, rows, identity)
             self.refused(name)
+        self.expect(1, ONE_SUMMARY)
+        with contextlib.closing(sqlite3.connect(self.path / "k", isolation_level=None)) as connection:
+            connection.execute("INSERT INTO node VALUES ('2', 'X')")
+        self.refused()
         for length in (0, 31, 33):
             make(self.path / f"short{length}", ROWS, bytes(length))
             self.refused(f"short{length}")

@@ -1,8 +1,8 @@
 """Campaigns over a disk that loses power: the system calls of a real campaign on its database and its log are recorded, and
 after each of them the machine stops. What had not been synced then is lost, kept, kept in part, torn at sectors, or kept in
 another order, in each file for itself; stops in the first opening, in commits, in a checkpoint under way and at the end are
-among them. From whatever is left the campaign goes on: it has all rounds that were safe, whole rounds, and at the end one
-worker's rows.
+among them. Or files fail from a call on. From whatever is left the campaign goes on: it has all rounds that were safe, whole
+rounds, and at the end one worker's rows.
 
     [COUNT=2 SEED=1] python3 -m tests.runners.crashes [-k WORD]
 
@@ -15,19 +15,23 @@ import random
 import re
 import shutil
 import subprocess
+from collections import Counter
 from dataclasses import dataclass
 from pathlib import Path
 from typing import Dict, Iterable, Iterator, List, Optional, Sequence, Tuple
 
 from tests.data.cases import RECIPROCAL
-from tests.runners.campaigns import DISC, QUARTER, ROWS, is_stage, stock
-from tests.runners.running import SECONDS, FolderTest, made_cases, main
+from tests.runners.campaigns import DISC, FAULT, QUARTER, ROWS, WHOLE_SUMMARY, is_stage, stock
+from tests.runners.running import SECONDS, Answered, FolderTest, made_cases, main
 
 SECTOR = 512
 FILES = ("k", "k-wal")
+READS = "pread64,fstat"
 CALLS = "pwrite64,ftruncate,fdatasync,fsync"
 CALLED = re.compile(r'(\d+ +)?(\w+)\(\d+<([^>]*)>(?:, "((?:\\x[0-9a-f]{2})*)"(\.\.\.)?, \d+, (\d+)|, (\d+))?\) += (-?\d+)')
 ONE_WORKER = ["--workers", "1"]
+
+FileCall = Tuple[str, "re.Match[str]"]  # the file's name, and the call as it was recorded
 
 
 @dataclass
@@ -140,24 +144,29 @@ class Crashes(FolderTest):
     def words(self, options: Sequence[str], rounds: int, boxes: int) -> List[str]:
         return ["campaign", "s", "--keep=k", *ONE_WORKER, *options, "--rounds", str(rounds), "--boxes", str(boxes)]
 
-    def recorded(self, words: Sequence[str]) -> List[Step]:
-        """The calls of a campaign on its files, in the order in which it made them."""
+    def watched(self, words: Sequence[str], options: Sequence[str] = ()) -> Tuple[Answered, List[FileCall]]:
+        """What a campaign comes to, and its calls on its files, in their order, but for those that failed."""
         log = self.path / "log"
-        watched = ["strace", "-f", "-y", "-xx", "-s", str(1 << 22), "-qq", "-e", f"trace={CALLS}", "-o", str(log)]
-        subprocess.run([*watched, self.program, *words], cwd=self.path, capture_output=True, check=False, timeout=SECONDS)
-        steps = [step for line in log.read_text().splitlines() for step in self.steps_of(line)]
+        watched = ["strace", "-f", "-y", "-xx", "-s", str(1 << 22), "-qq", "-e", f"trace={READS},{CALLS}", "-o", str(log)]
+        done = subprocess.run([*watched, *options, self.program, *words], cwd=self.path, capture_output=True, check=False,
+                              timeout=SECONDS)
+        lines = log.read_text().splitlines()
         log.unlink()
+        self.assertFalse([line for line in lines if "unfinished" in line[-40:]], "two calls at a time")
+        found = [called for called in map(CALLED.fullmatch, map(str.strip, lines)) if called]
+        names = [Path(bytes.fromhex(called[3].replace("\\x", "")).decode() if "\\x" in called[3] else called[3]).name
+                 for called in found]
+        return (done.returncode, done.stdout, done.stderr), [call for call in zip(names, found) if call[0] in FILES]
+
+    def recorded(self, words: Sequence[str]) -> List[Step]:
+        """The calls of a campaign that change or sync a file."""
+        steps = [step for call in self.watched(words)[1] for step in self.steps_of(*call)]
         self.assertGreater(len(steps), 20, "no calls were recorded")
         return steps
 
-    def steps_of(self, line: str) -> Iterator[Step]:
-        """The step that a line of the record tells, if it is one on a file of the campaign."""
-        called = CALLED.fullmatch(line.strip())
-        self.assertNotIn("unfinished", line[-40:], "two calls at a time")
-        if called is None:
-            return
-        name = Path(bytes.fromhex(called[3].replace("\\x", "")).decode() if "\\x" in called[3] else called[3]).name
-        if name not in FILES:
+    def steps_of(self, name: str, called: "re.Match[str]") -> Iterator[Step]:
+        """The step that a call is, unless it reads."""
+        if called[2] in READS.split(","):
             return
         if called[2] == "pwrite64":
             data = bytes.fromhex((called[4] or "").replace("\\x", ""))
@@ -247,6 +256,73 @@ class Crashes(FolderTest):
             if number in chosen:
                 with self.subTest(stop=number):
                     self.survives(stop, words, whole, f"stop {number} of {len(steps)}")
+
+    def failing(self, names: Sequence[str], calls: Sequence[Tuple[str, str]],
+                words: Sequence[str]) -> Tuple[Answered, List[FileCall]]:
+        """A campaign on new files, of which these fail from the call on that comes behind the ones that are named."""
+        self.begin(RECIPROCAL, {})
+        counts = Counter(call for name, call in calls if name in names)
+        changes = [f"inject={call}:error=EIO:when={counts[call] + 1}+" for call in f"{READS},{CALLS}".split(",")]
+        options = [*(word for change in changes for word in ("-e", change)),
+                   *(word for name in names for word in ("-P", str(self.path.resolve() / name)))]
+        return self.watched(words, options)
+
+    def test_files_that_fail_from_each_call_on(self) -> None:
+        """The log, the database or both fail from each of their calls on: a campaign of five rounds tells the fault, unless
+        all rounds were saved, and writes nothing more. With all lost that was not synced it has the rounds that were saved,
+        and goes on to the end."""
+        words = self.words(QUARTER, 5, 1)
+        files = self.begin(RECIPROCAL, {})
+        called = self.watched(words)[1]
+        calls = [(name, call[2]) for name, call in called]
+        stops = [dict(files), *self.behind(files, called)]
+        saves = self.saves(calls)
+        for names, by in ((["k-wal"], 1), (["k"], 1), (["k", "k-wal"], 4)):
+            for number in [number for number, (name, _) in enumerate(calls) if name in names][::by]:
+                with self.subTest(" ".join(names), number=number, call=calls[number]):
+                    saved = sum(save < number for save in saves)
+                    given, made = self.failing(names, calls[:number], words)
+                    self.assertEqual(given, (0, WHOLE_SUMMARY, b"") if saved == len(saves) else (10, b"", FAULT))
+                    stop = stops[number]
+                    for last in self.behind({name: File() for name in names}, made):
+                        stop = {**stop, **last}
+                    self.lose(stop, names)
+                    self.keeps(saved, words)
+
+    def behind(self, files: Dict[str, File], called: Sequence[FileCall]) -> Iterator[Dict[str, File]]:
+        """Files behind each of these calls."""
+        for name, call in called:
+            for step in self.steps_of(name, call):
+                files[name] = files[name].after(step)
+            yield dict(files)
+
+    def saves(self, calls: Sequence[Tuple[str, str]]) -> List[int]:
+        """The syncs that end the saves of five rounds, between which the log alone is called: the last ones before it is read
+        and copied into the database."""
+        copied = calls.index(("k-wal", "pread64"))
+        saves = [number for number, call in enumerate(calls[:copied]) if call == ("k-wal", "fdatasync")][-5:]
+        self.assertEqual({name for name, _ in calls[saves[0]:saves[-1]]}, {"k-wal"}, calls)
+        self.assertTrue({"k", "k-wal"} <= {name for name, _ in calls[:saves[0]]}, calls)
+        return saves
+
+    def lose(self, stop: Dict[str, File], failed: Sequence[str]) -> None:
+        """Files that are as they were when some of them failed lose what was not synced. The log's salts are other ones in each
+        run, so one that didn't fail stays, and has nothing to lose."""
+        for name, file in stop.items():
+            left = self.get(name) if (self.path / name).exists() else b""
+            if name == "k" or name in failed:
+                self.assertTrue(left == file.seen(), f"{name} was written to behind the fault")
+                self.put(name, file.safe)
+            else:
+                self.assertEqual((len(left), file.since), (len(file.safe), ()))
+
+    def keeps(self, saved: int, words: Sequence[str]) -> None:
+        """The rows are those of the rounds that were saved, and maybe of one more. A campaign goes on to the end."""
+        rows = stock(self.path, "k")[2]
+        self.assertTrue(is_stage(rows, set(ROWS), 1), rows)
+        self.assertIn(len(rows), {saved, min(saved + 1, len(ROWS))})
+        self.assertEqual(self.answered(*words), (0, WHOLE_SUMMARY, b""))
+        self.assertEqual(stock(self.path, "k")[2], ROWS)
 
 
 if __name__ == "__main__":

@@ -16,7 +16,7 @@ import time
 
 from tests.data.cases import system
 from tests.runners.outside import PRINTING, RING, KeptTest
-from tests.runners.running import SECONDS, Moments, main, wait_until_it_works
+from tests.runners.running import SECONDS, Moments, main, processor_seconds, wait_until_it_works
 from tests.runners.stores import BESIDE
 
 # This runs for a quarter of an hour and in little memory: a node takes ten milliseconds, and nothing is ever decided.
@@ -33,12 +33,6 @@ STARVED = [(words, None) for words in PRINTING] + [
 
 def balanced(part: str, count: int) -> str:
     return part if count == 1 else f"({balanced(part, count // 2)}+{balanced(part, count - count // 2)})"
-
-
-def processor_seconds() -> float:
-    """What the calls that ended have taken of the processor."""
-    usage = resource.getrusage(resource.RUSAGE_CHILDREN)
-    return usage.ru_utime + usage.ru_stime
 
 
 DEEP = [system("x", "(" * 100 + "x" + ")" * 100 + "<=1"), system("x", "-" * 999 + "x<=1"),

@@ -39,7 +39,7 @@ from tests.reference import paver as plain
 from tests.reference.kinds import Bound, Expression, Relation
 from tests.reference.slopes import CenteredSettler
 from tests.runners.package_test import PackageTest, command, example
-from tests.runners.running import main, rows
+from tests.runners.running import SECONDS, main, rows
 
 DRAWS = 10_000
 QUARTIC = "Variables x in [-4,4], y in [-4,4]; Constraints x <= 4; end"
@@ -316,7 +316,7 @@ class Answers(PackageTest):
             commands = re.findall(r"^  paver (.*)$", told, re.M)
             self.assertEqual([words.split()[0] for words in commands], ["run-centered", "audit-centered", "run", "audit"])
             printed = [subprocess.run([os.environ["PAVER"], *words.split()], cwd=folder, capture_output=True, text=True,
-                                      timeout=60, check=True).stdout.splitlines()[0] for words in commands]
+                                      timeout=SECONDS, check=True).stdout.splitlines()[0] for words in commands]
             self.assertEqual(printed[1], printed[3], printed)
             self.assertEqual(printed[3], "honest", printed)
             self.assertTrue(printed[0].endswith(" inner 0 small 0 open 0"), printed)
@@ -337,7 +337,7 @@ class Answers(PackageTest):
                                          env={**os.environ, "PYTHONPATH": str(Path(paver.__file__).parents[1])})
                 child.stderr.readline()  # the first bound is told
                 child.send_signal(number)
-                out, _ = child.communicate(timeout=60)
+                out, _ = child.communicate(timeout=SECONDS)
                 self.assertEqual(child.returncode, 1, (out, child.returncode))
                 self.assertIn("it was interrupted", out, (out, child.returncode))
                 lower, upper = (re.findall(rf"^{name} (\S+)$", out, re.M)[0] for name in ("lower", "upper"))

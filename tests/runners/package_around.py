@@ -18,7 +18,7 @@ from typing import Iterator
 import paver
 from paver.options import COMMANDS
 from tests.runners.package_test import PackageTest
-from tests.runners.running import TOP, main
+from tests.runners.running import SECONDS, TOP, main
 
 OPTIONS = {command: sorted(f"--{name}" for name in names) for command, names in COMMANDS.items()}
 STATUSES = [str(status) for status in range(12)]
@@ -45,11 +45,12 @@ def zsh_makes_of(typed: str) -> str:
         os.execvpe("zsh", ["zsh", "-f", "-i"], {**os.environ, "TERM": "dumb"})
     ready = f"PROMPT=; fpath=('{TOP}/completions' $fpath); autoload -Uz compinit; compinit -u -D; print rea''dy\n"
     os.write(terminal, ready.encode())
-    begun, said = time.monotonic(), ""
-    while "ready" not in said and time.monotonic() < begun + 60:
+    until, said, line = time.monotonic() + SECONDS, "", ""
+    while "ready" not in said and time.monotonic() < until:
         said += said_within(terminal, 0.5)
     os.write(terminal, typed.encode() + b"\t")
-    line = said_within(terminal, 2)
+    while len(line) <= len(typed) and time.monotonic() < until:
+        line += said_within(terminal, 2)
     os.write(terminal, b"\x15exit\n")
     os.close(terminal)
     os.waitpid(child, 0)
@@ -89,7 +90,7 @@ def completed(*words: str) -> list[str]:
     """What bash offers for the last word."""
     script = f"source '{TOP}/completions/paver.bash'; COMP_WORDS=(\"$@\"); COMP_CWORD=$(($# - 1)); _paver; " \
              "printf '%s\\n' \"${COMPREPLY[@]}\""
-    done = subprocess.run(["bash", "-c", script, "bash", *words], capture_output=True, text=True, timeout=60, check=True)
+    done = subprocess.run(["bash", "-c", script, "bash", *words], capture_output=True, text=True, timeout=SECONDS, check=True)
     if done.stderr:
         raise ValueError(done.stderr)
     return done.stdout.split()
@@ -117,7 +118,7 @@ class Around(PackageTest):
     def test_man_page_by_groff(self) -> None:
         self.needs_tool("groff")
         done = subprocess.run(["groff", "-man", "-Tascii", "-ww", str(TOP / "docs" / "paver.1")], capture_output=True,
-                              timeout=60, check=False)
+                              timeout=SECONDS, check=False)
         self.assertEqual(done.returncode, 0, done.stderr)
         self.assertEqual(done.stderr, b"", done.stderr)
 
@@ -146,7 +147,7 @@ class Around(PackageTest):
 
     def fish_offers(self, line: str) -> list[str]:
         script = f"source '{TOP}/completions/paver.fish'; complete -C '{line}'"
-        done = subprocess.run(["fish", "-c", script], capture_output=True, text=True, timeout=60, check=False)
+        done = subprocess.run(["fish", "-c", script], capture_output=True, text=True, timeout=SECONDS, check=False)
         self.assertEqual(done.returncode, 0, done.stderr)
         self.assertEqual(done.stderr, "", done.stderr)
         return [offer.split("\t")[0] for offer in done.stdout.splitlines()]
@@ -172,15 +173,15 @@ class Around(PackageTest):
         self.needs_tool("octave")
         with tempfile.TemporaryDirectory() as folder:
             words = [os.environ["PAVER"], "run", str(TOP / "examples" / "ring.mbx"), "--eps", "1"]
-            printed = subprocess.run(words, capture_output=True, text=True, timeout=60, check=True).stdout
+            printed = subprocess.run(words, capture_output=True, text=True, timeout=SECONDS, check=True).stdout
             (Path(folder) / "printed").write_text(printed)
-            subprocess.run([*words, "--out", f"{folder}/stored"], capture_output=True, timeout=60, check=True)
+            subprocess.run([*words, "--out", f"{folder}/stored"], capture_output=True, timeout=SECONDS, check=True)
             script = f"addpath('{TOP}/python'); a = read_paving('{folder}/printed'); " \
                      f"b = read_paving('{folder}/stored', [-3 3; -3 3]); " \
                      "printf('%d %d %d %d %d\\n', rows(a.inner), rows(a.small), a.removed, a.cut, " \
                      "isequal(a.small, b.small)); printf('%.17g ', a.small(1, :))"
             done = subprocess.run(["octave", "--no-gui", "--quiet", "--norc", "--eval", script], capture_output=True, text=True,
-                                  timeout=120, check=False)
+                                  timeout=SECONDS, check=False)
             self.assertEqual(done.returncode, 0, done.stderr)
             found, first = done.stdout.split("\n")
             kinds = [line[0] for line in printed.splitlines()[1:]]
@@ -195,13 +196,13 @@ class Around(PackageTest):
             self.skipTest("there is no ./paver to install")
         with tempfile.TemporaryDirectory() as folder:
             words = ["make", "--silent", "-C", str(TOP), "-o", "paver", f"DESTDIR={folder}", "PREFIX=/usr"]
-            subprocess.run([*words, "install"], check=True, timeout=60)
+            subprocess.run([*words, "install"], check=True, timeout=SECONDS)
             found = sorted(str(path.relative_to(folder)) for path in Path(folder).rglob("*") if path.is_file())
             self.assertEqual(found,
                              ["usr/bin/paver", "usr/share/bash-completion/completions/paver",
                               "usr/share/fish/vendor_completions.d/paver.fish", "usr/share/man/man1/paver.1",
                               "usr/share/zsh/site-functions/_paver"], found)
-            subprocess.run([*words, "uninstall"], check=True, timeout=60)
+            subprocess.run([*words, "uninstall"], check=True, timeout=SECONDS)
             self.assertFalse([path for path in Path(folder).rglob("*") if path.is_file()])
 
     def test_pip(self) -> None:
@@ -213,11 +214,11 @@ class Around(PackageTest):
             shutil.copytree(TOP / "python", f"{folder}/source", ignore=shutil.ignore_patterns("__pycache__"))
             words = [*pip, "install", "--quiet", "--no-index", "--disable-pip-version-check",
                      "--target", f"{folder}/site", f"{folder}/source"]
-            done = subprocess.run(words, capture_output=True, text=True, timeout=300, check=False)
+            done = subprocess.run(words, capture_output=True, text=True, timeout=SECONDS, check=False)
             self.assertEqual(done.returncode, 0, done.stderr)
-            run = subprocess.run([sys.executable, "-m", "paver", "summary", str(TOP / "examples" / "ring.mbx")], timeout=60,
+            run = subprocess.run([sys.executable, "-m", "paver", "summary", str(TOP / "examples" / "ring.mbx")],
                                  env={**os.environ, "PYTHONPATH": f"{folder}/site"}, capture_output=True, text=True,
-                                 check=False)
+                                 timeout=SECONDS, check=False)
             self.assertEqual(run.returncode, 0, run.stderr)
             self.assertTrue(run.stdout.startswith("settled 663 "), run.stderr)
 
@@ -234,7 +235,7 @@ class Around(PackageTest):
                 continue  # a shim with nothing behind it
             done = subprocess.run([python, "-W", "error", "-c", f"import {', '.join(names)}"], capture_output=True, text=True,
                                   env={**os.environ, "PYTHONPATH": str(TOP / "python"), "PYTHONDONTWRITEBYTECODE": "1"},
-                                  timeout=60, check=False)
+                                  timeout=SECONDS, check=False)
             with self.subTest(python):
                 self.assertEqual((done.returncode, done.stderr), (0, ""))
 
@@ -255,8 +256,9 @@ class Around(PackageTest):
             entry = "[bufname(d.bufnr), d.lnum, d.col, d.text]"
             show = f"call writefile([string(map(getqflist(), {{_, d -> {entry}}}))], '{result}')"
             subprocess.run(["vim", "-Nes", "-u", "NONE", "-c", f"edit {system}", "-c", f"source {TOP}/docs/paver.vim",
-                            "-c", "silent make!", "-c", show, "-c", "qa!"], cwd=folder, stdin=subprocess.DEVNULL, timeout=60,
-                           env={**os.environ, "PATH": f"{folder}:{os.environ['PATH']}"}, capture_output=True, check=False)
+                            "-c", "silent make!", "-c", show, "-c", "qa!"], cwd=folder, stdin=subprocess.DEVNULL,
+                           env={**os.environ, "PATH": f"{folder}:{os.environ['PATH']}"}, capture_output=True, timeout=SECONDS,
+                           check=False)
             if not result.exists():
                 self.skipTest("this vim knows no lambdas")
             self.assertTrue(result.read_text().strip().endswith("below/bad.mbx', 3, 7, 'Unexpected']]"), result.read_text())
@@ -265,8 +267,9 @@ class Around(PackageTest):
             tools.chmod(0o755)
             system.write_text("Variables x in [0,4];\nConstraints\n  x == 1;\nend\n")
             subprocess.run(["vim", "-Nes", "-u", "NONE", "-c", f"edit {system}", "-c", f"source {TOP}/docs/paver.vim",
-                            "-c", "silent make!", "-c", show, "-c", "qa!"], cwd=folder, stdin=subprocess.DEVNULL, timeout=60,
-                           env={**os.environ, "PATH": f"{folder}:{os.environ['PATH']}"}, capture_output=True, check=False)
+                            "-c", "silent make!", "-c", show, "-c", "qa!"], cwd=folder, stdin=subprocess.DEVNULL,
+                           env={**os.environ, "PATH": f"{folder}:{os.environ['PATH']}"}, capture_output=True, timeout=SECONDS,
+                           check=False)
             self.assertIn("below/bad.mbx', 3, 6, 'this can''t stand here (Unexpected). Equality is written `=`",
                           result.read_text(), result.read_text())
 

@@ -16,15 +16,18 @@ import tempfile
 from fractions import Fraction
 from itertools import product
 from pathlib import Path
-from typing import Any, Callable, Mapping
+from typing import Any, Callable, Iterator, Mapping, Sequence
 
 import paver
 from tests.runners import package_around
 from tests.runners.package_test import PackageTest, command
-from tests.runners.running import TOP, made_cases, main, rows
+from tests.runners.running import SECONDS, TOP, made_cases, main, rows
 
 PAGE = TOP / "docs" / "CONTROL.md"
 NEAR = 1e-3  # of the border, points are left out
+AXES = "pig"  # the variables of a made plant
+SIDE = 10  # values of each at a plant: so 1,000 points
+ROUNDED = 1e-11  # of the sum of all terms' sizes: floats err by less, with a thousand operations
 Point = Mapping[str, Fraction]
 Coefficients = list[Fraction]
 
@@ -34,18 +37,49 @@ class Written:
 
     def __init__(self, text: str) -> None:
         plain = re.sub(r"//[^\n]*", "", text)
+        functions = re.findall(r"function (\w+)\(([^)]*)\)\s*return ([^;]*);\s*end", plain)
+        relations = [c.strip() for c in plain[plain.index("Constraints") + 11:].split(";")[:-1]]
         self.known: dict[str, Any] = {"F": Fraction}
-        for name, names, body in re.findall(r"function (\w+)\(([^)]*)\)\s*return ([^;]*);\s*end", plain):
+        for name, names, body in functions:
             exec(f"def {name}({names}): return {self.python(body)}", self.known)
-        relations = [self.python(c) for c in plain[plain.index("Constraints") + 11:].split(";")[:-1]]
-        self.codes = [compile(c.strip(), "constraint", "eval") for c in relations]
+        self.codes = [compile(self.python(c), "constraint", "eval") for c in relations]
+        self.floats = self.in_floats(functions, relations, "-")
+        self.sizes = self.in_floats(functions, relations, "+")
 
-    def python(self, text: str) -> str:
+    @staticmethod
+    def python(text: str) -> str:
         text = re.sub(r"\^(\d+)", r"**int('\1')", text)
         return re.sub(r"(?<![\w'.])(\d+(?:\.\d+)?(?:e\d+)?)", r"F('\1')", text)
 
+    @staticmethod
+    def in_floats(functions: list[tuple[str, str, str]], relations: list[str], minus: str) -> list[tuple[str, Any]]:
+        """The relation of each constraint, and the function of floats by which its left side is above its right side; with
+        `+` in place of `-` it is the sum of the sizes of all terms."""
+        known: dict[str, Any] = {}
+        for name, names, body in functions:
+            exec(f"def {name}({names}): return {body.replace('^', '**').replace('-', minus)}", known)
+        found = []
+        for c in relations:
+            left, relation, right = re.split(r"\s(<=|>=|<|>)\s", c)
+            plain = f"({left}) - ({right})".replace("^", "**").replace("-", minus)
+            found.append((relation, eval(f"lambda {', '.join(AXES)}: {plain}", known)))
+        return found
+
     def holds(self, point: Point) -> bool:
         return all(eval(code, self.known, dict(point)) for code in self.codes)
+
+    def holds_by_floats(self, point: tuple[float, float, float]) -> bool:
+        """The same at a point of AXES in floats, each a dyadic number of few bits: what rounding could change is asked
+        exactly."""
+        sizes = [abs(x) for x in point]
+        for k, (relation, value) in enumerate(self.floats):
+            found = value(*point)
+            if abs(found) <= ROUNDED * self.sizes[k][1](*sizes):
+                if not eval(self.codes[k], self.known, dict(zip(AXES, map(Fraction, point)))):
+                    return False
+            elif (found > 0) != (relation[0] == ">"):
+                return False
+        return True
 
 
 def multiplied(a: Coefficients, b: Coefficients) -> Coefficients:
@@ -61,25 +95,28 @@ def added(a: Coefficients, b: Coefficients) -> Coefficients:
     return [x + y for x, y in zip(a + [Fraction(0)] * (size - len(a)), b + [Fraction(0)] * (size - len(b)))]
 
 
-def roots_of(a: Coefficients) -> list[complex]:
-    """All roots in floats, by Durand and Kerner."""
-    b = [float(c / a[-1]) for c in a[:-1]]
+def roots_of(a: Sequence[float | Fraction], near: Sequence[complex] = ()) -> list[complex]:
+    """All roots in floats, by Durand and Kerner; from the roots of a polynomial nearby where they are given, moved off the
+    real axis, which real ones would never leave."""
+    b = [float(c / a[-1]) for c in a[-2::-1]]
     radius = 1 + max(map(abs, b))
-    roots = [cmath.rect(min(radius, 2), 0.7 + 2 * math.pi * k / len(b)) for k in range(len(b))]
+    around = [cmath.rect(1, 0.7 + 2 * math.pi * k / len(b)) for k in range(len(b))]
+    roots = [z + 0.01 * turn for z, turn in zip(near, around)] or [min(radius, 2) * turn for turn in around]
     for _ in range(300):
         most = 0.0
         for i, z in enumerate(roots):
             value, below = 1 + 0j, 1 + 0j
-            for c in reversed(b):
+            for c in b:
                 value = value * z + c
-            for j, other in enumerate(roots):
-                if j != i:
-                    below *= z - other
+            for other in roots[:i]:
+                below *= z - other
+            for other in roots[i + 1:]:
+                below *= z - other
             step = value / (below or 1e-30)
             roots[i], most = z - step, max(most, abs(step) / max(1, abs(z)))
-        if most < 1e-13:
+        if most < 1e-10:  # the next step is its square
             break
-    return roots
+    return roots if most < 1e-6 or not near else roots_of(a)
 
 
 def text_of(a: Coefficients, name: str) -> str:
@@ -98,12 +135,25 @@ def made_polynomial(source: random.Random, degree: int) -> Coefficients:
     return found
 
 
-def excess(kind: str, number: Fraction, root: complex) -> float:
+def excess(kind: str, number: float, root: complex) -> float:
     """How far a root is outside the region that is asked for."""
     if kind == "damping":
-        return float(number) + root.real / abs(root) if abs(root) > 1e-6 else 0.0
-    return {"stable": root.real, "shift": root.real + float(number), "radius": abs(root) - float(number),
-            "stable in z": abs(root) - 1}[kind]
+        return number + root.real / abs(root) if abs(root) > 1e-6 else 0.0
+    if kind in ("radius", "stable in z"):
+        return abs(root) - (number if kind == "radius" else 1)
+    return root.real + (number if kind == "shift" else 0)
+
+
+def walk(source: random.Random) -> Iterator[tuple[float, float, float]]:
+    """The points of a grid of drawn values of p, i and g, in an order in which each is near the last one."""
+    values = [[source.randint(low, high) / 64 for _ in range(SIDE)] for low, high in ((-128, 256), (-128, 256), (32, 96))]
+    first, second, third = map(sorted, values)
+    for p in first:
+        second.reverse()
+        for i in second:
+            third.reverse()
+            for g in third:
+                yield p, i, g
 
 
 # A text, the variables' grids, whether a point is in the published region, and the source.
@@ -170,17 +220,17 @@ class Control(PackageTest):
         found = paver.control_text(text, theorems=False)
         if number % 5 == 0:
             self.assertEqual(len(paver.check_text(found.text).constraints), len(found.constraints))
-        written, points = Written(found.text), 0
         integrator = [Fraction(-1 if sampled else 0), Fraction(1)]
-        for _ in range(12):
-            first, second = (Fraction(source.randint(-16, 32), 8) for _ in "pi")
-            g = Fraction(source.randint(8, 24), 16)
-            controller = [first * integrator[0] + second, first]
-            loop = added(multiplied(below, integrator), multiplied([g * c for c in above], controller))
-            far = max(excess(f"{kind} in z" if sampled and kind == "stable" else kind, asked, z) for z in roots_of(loop))
+        parts = [list(map(float, added(part, [Fraction(0)] * (degree + 2)))) for part in
+                 (multiplied(below, integrator), multiplied(above, integrator), above)]
+        asked_kind = f"{kind} in z" if sampled and kind == "stable" else kind
+        written, points, roots = Written(found.text), 0, []  # type: Written, int, list[complex]
+        for p, i, g in walk(source):
+            roots = roots_of([a + g * (p * b + i * c) for a, b, c in zip(*parts)], roots)
+            far = max([excess(asked_kind, float(asked), z) for z in roots])
             if abs(far) > NEAR:
                 points += 1
-                self.assertEqual(written.holds({"p": first, "i": second, "g": g}), far < 0, (text, first, second, g, far))
+                self.assertEqual(written.holds_by_floats((p, i, g)), far < 0, (text, p, i, g, far))
         return points
 
     def test_plants(self) -> None:
@@ -188,7 +238,7 @@ class Control(PackageTest):
         source, points = random.Random(seed), 0
         for number in range(count):
             points += self.check_plant(source, number)
-        self.assertGreater(points, 9 * count)
+        self.assertGreater(points, 0.95 * SIDE ** 3 * count)
 
     def test_books(self) -> None:
         """Published regions, at points of a grid that meets no border."""
@@ -324,7 +374,7 @@ class Control(PackageTest):
                            "PATH": f"{Path(sys.executable).parent}:{os.environ['PATH']}"}
             for words, told, lines in shown:
                 words = words.replace("./paver", os.environ["PAVER"])
-                done = subprocess.run(["bash", "-c", words], cwd=folder, capture_output=True, text=True, timeout=300,
+                done = subprocess.run(["bash", "-c", words], cwd=folder, capture_output=True, text=True, timeout=SECONDS,
                                       env=environment, check=False)
                 answer = (done.returncode, done.stdout.splitlines())
                 self.assertEqual(answer, (int(*told or ["0"]), lines), (words, done.stderr))

@@ -26,7 +26,7 @@ from tests.reference import files, minibex, numbers
 from tests.reference.paver import bound
 from tests.runners.package_stages import exact, kept_of
 from tests.runners.package_test import PackageTest, at, command, example
-from tests.runners.running import PROGRAM, TOP, main
+from tests.runners.running import PROGRAM, SECONDS, TOP, main
 
 Pairs = tuple[tuple[Fraction, Fraction], ...]
 TINY = Fraction(1, 1 << 90)
@@ -130,8 +130,8 @@ class Decide(PackageTest):
         search = exact(box)
         scales = [Fraction(given.get(name, high - low or 1)) for name, (low, high) in zip(plain.names, search)]
         found = paver.decide(paver.Paving.read(path, system=system), given)
-        tolerance, largest = found.tolerance, found.largest
-        assert tolerance is not None and largest is not None
+        tolerance, ball, largest = found.tolerance, found.ball, found.largest
+        assert tolerance is not None and ball is not None and largest is not None
         self.assertEqual(list(found.scales), scales)
         moves = [tolerance.share * scale if low < high else 0 for scale, (low, high) in zip(scales, search)]
         self.assertEqual(list(tolerance.moves), moves)
@@ -145,8 +145,32 @@ class Decide(PackageTest):
             for wider in ((low - TINY, high), (low, high + TINY)) if low < high else ():
                 self.assertFalse(covered((*largest.box[:k], wider, *largest.box[k + 1:]), inner), (largest, k))
         self.assertGreaterEqual(measure(largest.box), max(map(measure, inner)))
+        self.check_ball(ball, inner, scales, search)
         self.check_members(plain, tolerance.box)
         self.check_members(plain, largest.box)
+
+    def check_ball(self, ball: paver.Ball, inner: list[Pairs], scales: list[Fraction], search: Pairs) -> None:
+        """Its radius is the distance of its point, or nearly, and by the bound no other drawn point has more: measured to each
+        cell between the ends of inner boxes that none of them fills, and to the faces of the search box."""
+        free = [k for k, (low, high) in enumerate(search) if low < high]
+        cuts = [sorted({end for box in inner for end in box[k]} | set(search[k])) for k in range(len(search))]
+        sides = [list(zip(ends, ends[1:])) if k in free else [search[k]] for k, ends in enumerate(cuts)]
+        unproved = [cell for cell in itertools.product(*sides) if not covered(cell, inner)]
+
+        def square(point: Any) -> Fraction:
+            """The square of how far a point is from what is not proved, in scales."""
+            faces = [min(point[k] - search[k][0], search[k][1] - point[k]) / scales[k] for k in free]
+            gaps = [[max(cell[k][0] - point[k], point[k] - cell[k][1], 0) / scales[k] for k in free] for cell in unproved]
+            return min([min(faces) ** 2, *(sum(gap * gap for gap in each) for each in gaps)])
+
+        least = square(ball.point)
+        self.assertTrue(0 < ball.radius ** 2 <= least <= (ball.radius + TINY) ** 2 * Fraction(1001, 1000), ball)
+        self.assertEqual(list(ball.reaches), [ball.radius * scale if k in free else 0 for k, scale in enumerate(scales)])
+        self.assertGreaterEqual(ball.radius, ball.most * Fraction(90, 100))
+        source = random.Random(3)
+        for _ in range(100):
+            point = [low + (high - low) * Fraction(source.randrange(1001), 1000) for low, high in source.choice(inner)]
+            self.assertLessEqual(square(point), ball.most ** 2)
 
     def check_members(self, plain: Any, box: Pairs) -> None:
         """Corners and drawn points of a box meet all constraints."""
@@ -161,14 +185,20 @@ class Decide(PackageTest):
                 self.check_small(text, eps, scales)
 
     def test_known(self) -> None:
-        """The greatest square in a disc of radius 1 has the half-side 1/sqrt(2), that in the triangle x + y <= 3 has 3/4; what
-        is proved comes near it from below."""
-        for text, eps, half in ((DISC, "0.01", math.sqrt(0.5)), (TRIANGLE, "0.02", 0.75)):
+        """The greatest square in a disc of radius 1 has the half-side 1/sqrt(2), that in the triangle x + y <= 3 has 3/4, and the
+        circle in it the radius 3 - 3/sqrt(2). A box of 2 by 1 is a square in scales of 2 and 1. What is proved comes near from
+        below, and the bounds near from above."""
+        box = "Variables x in [0,4], y in [0,4]; Constraints x <= 2; y <= 1; end"
+        for text, eps, x, half, radius in ((DISC, "0.02", 1, math.sqrt(0.5), 1), (box, "0.02", 2, 0.5, 0.5),
+                                           (TRIANGLE, "0.02", 1, 0.75, 3 - 3 / math.sqrt(2))):
             with self.subTest(text):
-                found = paver.decide(paver.run_text(text, eps=eps).paving(), {"x": 1, "y": 1}).tolerance
-                assert found is not None
-                self.assertLessEqual(float(found.share), half)
-                self.assertGreater(float(found.share), 0.95 * half)
+                found = paver.decide(paver.run_text(text, eps=eps).paving(), {"x": x, "y": 1})
+                assert found.tolerance is not None and found.ball is not None
+                for share, most, wanted in ((found.tolerance.share, found.tolerance.most, half),
+                                            (found.ball.radius, found.ball.most, radius)):
+                    self.assertLessEqual(float(share), wanted)
+                    self.assertGreater(float(share), 0.95 * wanted)
+                    self.assertTrue(share <= most and float(most) < 1.03 * wanted)
 
     def test_several_leaves(self) -> None:
         """A box that no single inner leaf holds is found."""
@@ -228,7 +258,10 @@ class Decide(PackageTest):
             with self.subTest(word):
                 status, out, err = command("decide", system, path, "--scale", word)
                 self.assertEqual((status, out, err.count("\n")), (2, "", 1), err)
-        self.assertEqual(command("decide", system, path, "--eps", "0.2")[0], 2)
+        self.assertEqual(command("decide", system, path, "--eps", "0.2", "--strict")[0], 2)
+        status, out, err = command("decide", system, path, "--eps", "0.2")
+        self.assertEqual((status, out), command("decide", system, path)[:2])
+        self.assertIn("that is taken", err)
 
     def test_digits(self) -> None:
         """Six digits, rounded to their side."""
@@ -272,7 +305,7 @@ class Decide(PackageTest):
                 self.assertEqual([call[:4][k] for call, k in zip(calls, (1, 1, 3))], ["check", "audit", "decide"])
                 for call in calls:
                     words = [PROGRAM, *call[1:]] if call[0] == "paver" else [sys.executable, *call[1:]]
-                    done = subprocess.run(words, capture_output=True, text=True, timeout=60, check=False)
+                    done = subprocess.run(words, capture_output=True, text=True, timeout=SECONDS, check=False)
                     with self.subTest(shlex.join(call)):
                         self.assertEqual(done.returncode, 0, done.stderr)
                         self.assertTrue(call[1] != "audit" or done.stdout == "honest\n", done.stdout)
@@ -304,7 +337,7 @@ class Decide(PackageTest):
         other, _ = self.stored(DISC, "0.5", "other")
         printed = self.path / "printed"
         printed.write_text(paver.run_text(TRIANGLE, eps="0.5").text)
-        for words in ((other, path), (system, path, "--eps", "1"), (system, printed), (system, self.path / "none")):
+        for words in ((other, path), (system, path, "--eps", "1", "--strict"), (system, printed), (system, self.path / "none")):
             with self.subTest(words[1:]):
                 status, out, err = command("report", *words)
                 self.assertEqual((status, out, err.count("\n")), (2, "", 1), err)
@@ -321,7 +354,7 @@ class Decide(PackageTest):
             call, _, target = words.partition(" > ")
             given = shlex.split(call)
             begun = [PROGRAM, *given[1:]] if given[0] == "./paver" else [sys.executable, *given[1:]]
-            done = subprocess.run(begun, cwd=self.path, capture_output=True, text=True, timeout=60, check=False)
+            done = subprocess.run(begun, cwd=self.path, capture_output=True, text=True, timeout=SECONDS, check=False)
             self.assertEqual(done.returncode, 0, done.stderr)
             if target:
                 self.assertEqual(self.page_of(done.stdout).headings, PARTS)

@@ -18,7 +18,7 @@ from paver.fit import parts_of
 from paver.measurements import read_csv
 from tests.runners.package_around import commands_of
 from tests.runners.package_test import PackageTest, command, example
-from tests.runners.running import TOP, main
+from tests.runners.running import SECONDS, TOP, main
 
 LINE = "Variables a in [-8, 8], b in [-8, 8]; Constraints y = a + b*t; end\n"
 BALL = "Variables x in [-2,2], y in [-2,2], z in [-2,2]; Constraints x^2 + y^2 + z^2 <= 2; x + z >= -1; end"
@@ -185,7 +185,7 @@ class Page(PackageTest):
             for words, _, lines in shown:
                 tools = words.replace("python3", sys.executable, 1)
                 done = subprocess.run(["bash", "-c", f'paver() {{ "$PAVER" "$@"; }}; {tools}'], cwd=folder, text=True,
-                                      timeout=60, capture_output=True, check=False,
+                                      timeout=SECONDS, capture_output=True, check=False,
                                       env={**os.environ, "PYTHONPATH": str(TOP / "python")})
                 with self.subTest(words):
                     self.assertEqual([line.strip() for line in done.stdout.splitlines()], lines, done.stderr)

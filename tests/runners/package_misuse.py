@@ -66,11 +66,17 @@ class Misuse(PackageTest):
             paver.run(example("ring"), eps="0.5", depth=40, out=stored)
             Path(f"{stored}.json").unlink()
             for system in ("two_discs", "ring"):
-                self.assert_raised(paver.PavingRefused, lambda system=system: paver.Paving.read(stored, system=example(system)),
+                self.assert_raised(paver.PavingRefused,
+                                   lambda system=system: paver.Paving.read(stored, system=example(system), strict=True),
                                    cause="wrong identity", name=str(stored))
+            self.assert_raised(paver.PavingRefused, lambda: paver.Paving.read(stored, system=example("two_discs")),
+                               cause="wrong identity", name=str(stored))
+            with self.assertWarnsRegex(UserWarning, "is this system's with --eps 0.5 --depth 40: that is taken"):
+                found = paver.Paving.read(stored, system=example("ring"))
+            self.assertEqual(sum(found.volumes().values()), 36)
             good = paver.Paving.read(stored, system=example("ring"), eps=0.5, depth=40.0)
             self.assertEqual(sum(good.volumes().values()), 36)
-            for work in (lambda: paver.Paving.read(stored, system=example("ring")),
+            for work in (lambda: paver.Paving.read(stored, system=example("ring"), strict=True),
                          lambda: paver.audit(example("ring"), stored)):
                 try:
                     work()
@@ -82,7 +88,8 @@ class Misuse(PackageTest):
             self.assert_raised(paver.PavingRefused,
                                lambda: paver.Paving.read(stored, system=example("ring"), identity="0" * 64))
             self.assert_raised(paver.PavingRefused,
-                               lambda: paver.Paving.read(stored, system=example("ring"), eps=0.5, depth=40, form="centered"))
+                               lambda: paver.Paving.read(stored, system=example("ring"), eps=0.5, depth=40, form="centered",
+                                                         strict=True))
             known = paver.check(example("ring"))
             text = paver.run(example("ring"), eps=1).text
             self.assert_raised(paver.PavingRefused, lambda: paver.Paving.from_text(text, system=known), cause="no identity")

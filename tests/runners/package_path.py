@@ -19,7 +19,7 @@ import paver
 from paver.packed import packed
 from tests.runners.package_around import commands_of
 from tests.runners.package_test import PackageTest, command, example
-from tests.runners.running import PROGRAM, TOP, main
+from tests.runners.running import PROGRAM, SECONDS, TOP, main
 
 Pairs = tuple[tuple[Any, Any], ...]
 Exact = tuple[Fraction, ...]
@@ -315,8 +315,8 @@ class Paths(PackageTest):
             (Path(folder) / "paver").symlink_to(PROGRAM)
             known = {**os.environ, "PYTHONPATH": str(TOP / "python"), "PAVER": PROGRAM}
             for words, told, lines in shown:
-                done = subprocess.run(["bash", "-c", words], cwd=folder, capture_output=True, text=True, timeout=300, env=known,
-                                      check=False)
+                done = subprocess.run(["bash", "-c", words], cwd=folder, capture_output=True, text=True, env=known,
+                                      timeout=SECONDS, check=False)
                 with self.subTest(words):
                     self.assertEqual((done.returncode, [line.strip() for line in done.stdout.splitlines()]),
                                      (int(*told or ["0"]), [line for line in lines if line]), done.stderr[:500])
@@ -355,7 +355,7 @@ class Paths(PackageTest):
                    f"tree = new Tree({{nodes: {nodes}, numbers: {numbers}}}, buffer, 2), "
                    f"point = (xs) => xs.map((x) => coordinate(parsed(String(x)))); console.log(JSON.stringify("
                    f"wayBetween(tree, point({start}), point({goal})))); }});")
-            done = subprocess.run(["node", "-"], input=f"{scripts}\n{ask}", capture_output=True, text=True, timeout=60,
+            done = subprocess.run(["node", "-"], input=f"{scripts}\n{ask}", capture_output=True, text=True, timeout=SECONDS,
                                   check=False)
             self.assertEqual(done.returncode, 0, done.stderr)
             way, found = json.loads(done.stdout), paving.path(start, goal)

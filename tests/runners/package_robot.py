@@ -22,7 +22,7 @@ from paver.robot_file import RobotRefused, read_text
 from tests.reference import minibex
 from tests.runners.package_around import commands_of
 from tests.runners.package_test import PackageTest, command
-from tests.runners.running import TOP, main, rows
+from tests.runners.running import SECONDS, TOP, main, rows
 
 POINTS = 10_000
 CLOSE = 1e-9
@@ -432,7 +432,7 @@ class Robots(PackageTest):
             self.assertGreaterEqual(len(shown), 3)
             (Path(folder) / "crane.txt").write_text(re.search(r"^```\n(chain.*?)^```", page, re.M | re.S).group(1))
             for words, told, lines in shown:
-                done = subprocess.run(["bash", "-c", words], cwd=folder, capture_output=True, text=True, timeout=60,
+                done = subprocess.run(["bash", "-c", words], cwd=folder, capture_output=True, text=True, timeout=SECONDS,
                                       check=False, env={**os.environ, "PYTHONPATH": str(TOP / "python")})
                 with self.subTest(words):
                     self.assertEqual((done.returncode, [line.strip() for line in (done.stdout + done.stderr).splitlines()]),

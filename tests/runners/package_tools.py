@@ -361,8 +361,12 @@ class Tools(PackageTest):
             self.assertEqual(status, 0, "the settings are kept beside the file")
             self.assertIn("--depth 12 suffices", err, "the settings are kept beside the file")
             Path(f"{stored}.json").unlink()
+            status, out, err = command("summary", example("ring"), stored)
+            self.assertEqual(status, 0, "the settings are found")
+            self.assertTrue(out.startswith("settled 335 "))
+            self.assertIn("is this system's with --depth 8: that is taken", err)
             others: list[tuple[str, list[str], str]] = [
-                ("ring", [], "it is this system's with --depth 8"),
+                ("ring", ["--strict"], "it is this system's with --depth 8"),
                 ("two_discs", ["--depth", "8"], "of another system, or of other settings")]
             for system, words, phrase in others:
                 status, out, err = command("summary", example(system), stored, *words)
@@ -383,13 +387,18 @@ class Tools(PackageTest):
             status, out, err = command("summary", ring, *words)
             self.assertEqual((status, out), (2, ""), (words, err))
             self.assertIn(phrase, err, (words, err))
-        for word in ("z", "z=", "z=one", "z=1/0"):
+        for word in ("z", "z=", "z=one", "z=1/0", "0.5,1", ""):
             status, _, err = command("plot", example("torus"), "--picture", "none.svg", "--eps", "2", "--at", word)
             self.assertEqual(status, 2, (word, err))
             self.assertIn("as --at z=0.5", err, (word, err))
         status, _, err = command("plot", example("torus"), "--picture", "none.svg", "--eps", "2")
         self.assertEqual(status, 2, err)
         self.assertIn("look at z", err, err)
+        with tempfile.TemporaryDirectory() as folder:
+            drawn = [Path(folder) / name for name in ("named.svg", "listed.svg")]
+            for picture, word in zip(drawn, ("z=0.5", "0.5")):
+                self.assertEqual(command("plot", example("torus"), "--picture", str(picture), "--eps", "2", "--at", word)[0], 0)
+            self.assertEqual(drawn[0].read_bytes(), drawn[1].read_bytes())
 
     def each_row(self, table: Iterable[Sequence[Any]], check: Callable[..., None]) -> None:
         """Makes a check of each row of a table behind the row's name."""

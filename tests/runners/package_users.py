@@ -21,7 +21,7 @@ from paver import notebook, numbers
 from paver.box import hull_of
 from paver.cover import Cover
 from tests.runners.package_test import PackageTest, at, example
-from tests.runners.running import TOP, main
+from tests.runners.running import SECONDS, TOP, main
 
 TRIANGLE = "Variables x in [0,4], y in [0,4]; Constraints x + y <= 3; end"
 
@@ -231,7 +231,7 @@ class Users(PackageTest):
         """A script by a Python that has a module."""
         environment = {**os.environ, "PYTHONPATH": str(TOP / "python")}
         done = subprocess.run([self.python_with(module), "-c", script], cwd=TOP, env=environment, capture_output=True,
-                              text=True, timeout=300, check=False)
+                              text=True, timeout=SECONDS, check=False)
         self.assertEqual(done.returncode, 0, done.stderr)
 
     def test_types(self) -> None:
@@ -242,7 +242,7 @@ class Users(PackageTest):
             script = TOP / "tests" / "data" / "public_surface.py"
             done = subprocess.run(["mypy", "--strict", "--follow-imports=silent", "--cache-dir", folder, str(script)],
                                   cwd=folder, env={**os.environ, "MYPYPATH": str(TOP / "python")}, capture_output=True,
-                                  text=True, timeout=300, check=False)
+                                  text=True, timeout=SECONDS, check=False)
             self.assertEqual(done.returncode, 0, done.stdout)
         used = script.read_text()
         self.assertTrue(all(f"paver.{name}" in used for name in paver.__all__ if name[0].islower()),

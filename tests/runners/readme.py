@@ -16,7 +16,7 @@ import tempfile
 from pathlib import Path
 
 from tests.runners import package_around
-from tests.runners.running import PROGRAM, TOP, FolderTest, main
+from tests.runners.running import PROGRAM, SECONDS, TOP, FolderTest, main
 
 README, USING = (TOP / "README.md").read_text(), (TOP / "docs" / "USING.md").read_text()
 TEXT = README + USING
@@ -62,7 +62,7 @@ class Readme(FolderTest):
         set_up = re.search(r"^export PYTHONPATH=.*?(?=   #)", TEXT, re.M)
         assert set_up is not None
         return subprocess.run(["bash", "-c", f"{set_up.group()}\n{words}"], cwd=self.path, capture_output=True, text=True,
-                              timeout=300, env={**os.environ, "PYTHONDONTWRITEBYTECODE": "1"}, check=False)
+                              timeout=SECONDS, env={**os.environ, "PYTHONDONTWRITEBYTECODE": "1"}, check=False)
 
     def ends_well(self, words: str) -> str:
         """What a command prints that has to end with status 0."""

@@ -12,6 +12,7 @@ import copy
 import io
 import os
 import random
+import resource
 import subprocess
 import sys
 import tempfile
@@ -72,6 +73,12 @@ def wait_until_it_works(child: subprocess.Popen[Any], seconds: float = 0.03) -> 
     until = time.monotonic() + SECONDS
     while sum(map(int, place.read_text().rpartition(")")[2].split()[11:13])) < ticks and time.monotonic() < until:
         time.sleep(0.001)
+
+
+def processor_seconds() -> float:
+    """What the calls that ended have taken of the processor, whatever else the machine does."""
+    usage = resource.getrusage(resource.RUSAGE_CHILDREN)
+    return usage.ru_utime + usage.ru_stime
 
 
 class FolderTest(unittest.TestCase):

@@ -131,6 +131,21 @@ class Sizes(FolderTest):
         self.wants(["merge", RING, "whole", *EPS], 4, b"", b"paving whole: too many nodes at line 100003\n")
         self.wants(["audit", RING, "whole", *EPS, "--limit", str(NODES)], 0, b"honest\n")
 
+    def test_limit_alone(self) -> None:
+        """Where no budget is given, a limit that is given is the budget of what begins anew, and of nothing else."""
+        self.wants(["run", RING, *EPS, *LARGE], 0, None)
+        self.wants(["run", RING, *EPS, *LARGE, "--out", "alone"], 0, self.summary)
+        for command in (["run"], ["run-centered"]):
+            done = self.call(*command, RING, *EPS, "--limit", "150000", "--out", "part")
+            self.assertEqual((done.returncode, done.stdout.split()[:2]), (1, [b"settled", b"150000"]), done.stderr)
+        self.wants(["run", RING, *EPS, *LARGE, "--boxes", "20000", "--out", "part"], 1, None)
+        done = self.call("resume", RING, "part", *EPS, *LARGE, "--out", "part")
+        self.assertEqual((done.returncode, done.stdout.split()[:2]), (1, [b"settled", b"40000"]), done.stderr)
+        least = [self.call("least", RING, *EPS, "--limit", "150000", "--of", "x*y", *more).stdout
+                 for more in ([], ["--boxes", "150000"], ["--boxes", "20000"])]
+        self.assertEqual(least[0], least[1])
+        self.assertNotEqual(least[0], least[2])
+
     def test_refused_words(self) -> None:
         for words in (["--boxes", "100001"], ["--limit", "99999"], ["--limit", "100000001"],
                       [*LARGE, "--boxes", "1000001"], ["--limit", ""], ["--limit", "+200000"], [*LARGE, *LARGE]):

@@ -20,7 +20,7 @@ from paver import commands, options
 from paver.version import VERSION
 from tests.generators import command_tables
 from tests.runners import allocations, campaign_allocations, fuzz_words, outside, package_around, reading
-from tests.runners.running import PROGRAM, TOP, FolderTest, main
+from tests.runners.running import PROGRAM, SECONDS, TOP, FolderTest, main
 
 TABLE = {command: set(names) for command, names in options.COMMANDS.items()}
 NAMES = sorted({name for names in options.COMMANDS.values() for name in names})
@@ -29,6 +29,15 @@ OTHER_NAMES = {"svg": "draw"}  # of the calls of the package
 USAGE = 2
 USING = (TOP / "docs" / "USING.md").read_text()
 GLOSSARY = TOP / "docs" / "GLOSSARY.md"
+# Words of the glossary, and those that would say the same in other words.
+OTHER_WORDS = {
+    "settle": "(?:processed|solved|expanded|visited|explored) (?:node|box|leaf|boxes|nodes|leaves)",
+    "inner box": "(?:inside|interior|feasible|solution) box(?:es)?", "small box": "(?:boundary|unknown|undecidable) box(?:es)?",
+    "removed part": "(?:outer|rejected|infeasible) (?:box|boxes|part|parts)", "budget": "quota|allowance",
+    "paving": "tiling|subdivision|tessellation", "share": "shards?|chunk of the leaves", "identity": "fingerprint",
+    "contractor": "pruning operator|narrowing operator|filtering operator", "bisection": "branching",
+    "settings": "configuration", "worker": "agents?|job runner", "round": "epochs?", "hull": "bounding box(?:es)?",
+}
 MANUAL = (TOP / "docs" / "paver.1").read_text().replace("\\-", "-")
 
 
@@ -217,6 +226,15 @@ class Tables(FolderTest):
         with self.subTest("the call of run on a text"):
             self.assertEqual(set(inspect.signature(paver.run_text).parameters) & set(NAMES), TABLE["run"])
 
+    def test_words_in_one_sense(self) -> None:
+        """No page has another word for what the glossary names; the glossary itself may say what the field calls it."""
+        for page in (*TOP.glob("docs/*.md"), TOP / "README.md", TOP / "CONTRIBUTING.md", TOP / "python" / "README.md"):
+            text = page.read_text()
+            for word, others in OTHER_WORDS.items():
+                found = re.findall(rf"\b(?:{others})\b", text, re.I) if page != GLOSSARY else []
+                with self.subTest(page=page.name, word=word):
+                    self.assertEqual(found, [])
+
     def test_glossary(self) -> None:
         """Each word of the glossary has its meaning, in a sentence or two, and a place in the crates that declares it."""
         for part in GLOSSARY.read_text().split("\n## ")[1:]:
@@ -279,7 +297,7 @@ class Tables(FolderTest):
         """`make dist` packs the same bytes twice, with digests that are right."""
         digests = []
         for _ in range(2):
-            done = subprocess.run([str(TOP / "build" / "dist.sh"), PROGRAM], capture_output=True, text=True, timeout=120,
+            done = subprocess.run([str(TOP / "build" / "dist.sh"), PROGRAM], capture_output=True, text=True, timeout=SECONDS,
                                   check=False)
             digests.append(done.stdout)
             with self.subTest("dist"):
@@ -287,10 +305,10 @@ class Tables(FolderTest):
         with self.subTest("two archives"):
             self.assertTrue(digests[0] == digests[1] != "", digests)
         name = digests[0].split()[-1]
-        subprocess.run(["tar", "xzf", str(TOP / "dist" / name), "-C", str(self.path)], check=True, timeout=60)
+        subprocess.run(["tar", "xzf", str(TOP / "dist" / name), "-C", str(self.path)], check=True, timeout=SECONDS)
         packed = self.path / name.removesuffix(".tar.gz")
         done = subprocess.run(["sha256sum", "--check", "--strict", "--quiet", "SHA256SUMS"], cwd=packed, capture_output=True,
-                              text=True, timeout=60, check=False)
+                              text=True, timeout=SECONDS, check=False)
         listed = {line.split("  ")[1] for line in (packed / "SHA256SUMS").read_text().splitlines()}
         there = {str(path.relative_to(packed)) for path in packed.rglob("*") if path.is_file()} - {"SHA256SUMS"}
         with self.subTest("digests"):

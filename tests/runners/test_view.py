@@ -30,7 +30,7 @@ from paver.view import page_of_text, view
 from tests.generators.made_pavings import canonical, grid_text, made_text
 from tests.runners.browser import Browser, find_browser
 from tests.runners.rendered import pixels_of
-from tests.runners.running import TOP, main
+from tests.runners.running import SECONDS, TOP, main
 from tests.runners.view_pixels import Made, Scene, Window, compared, fault_of_slice
 
 PIXELS, ZOOMS = 200, 6  # at each zoom, and zooms of each made paving: 50 zooms in all
@@ -642,7 +642,7 @@ class Files(unittest.TestCase):
             for words, status in calls:
                 done = subprocess.run([sys.executable, "-m", "paver", "view", *map(str, words)],
                                       env={**os.environ, "PYTHONPATH": "python"}, cwd=TOP, capture_output=True, text=True,
-                                      timeout=60, check=False)
+                                      timeout=SECONDS, check=False)
                 self.assertEqual(done.returncode, status, (words, done.returncode, done.stderr))
                 self.assertEqual((done.stdout[:15], done.stderr.count("\n")),
                                  ("<!DOCTYPE html>", 0) if status == 0 else ("", 1), words)

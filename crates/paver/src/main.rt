@@ -3,6 +3,7 @@
 #![tactic(auto)]
 
 use pv_cli::{Status, Unread, paver_main, tell_unread};
+use pv_hints::tell_hint;
 use pv_io::{Folder, RealFolder, RealSink, Sink};
 use pv_keep_sql::FileKeeper;
 use pv_progress::{Clearing, Progress};
@@ -22,6 +23,7 @@ fn main(rt: HostRuntime) -> ExitCode {
             let mut out = Clearing::new(RealSink::new(rt.stdout()), &progress);
             let status = answer(&rt, &rt, &words, &mut folder, &mut out, &mut err, &progress);
             progress.clear();
+            tell_hint(&rt, &words, status, &mut folder, &mut err);
             status
         }
         Err(why) => tell_unread(&mut err, why),

@@ -8,7 +8,7 @@ use Rattle.clap.specs.Words.{Row, Text, first_of}
 use Rattle.pv_scope.specs.declared.order.Order.{Order}
 use Rattle.pv_scope.specs.declared.order.Order.TheVariants.{Depth, Level}
 use Rattle.pv_scope.specs.declared.share.Share.{Share}
-use Rattle.pv_request.specs.Requests.{words_by_slash, IsDigits, IsShare, HasNoShare, IsEffort, order_name, resumes, HasBadValueFor}
+use Rattle.pv_request.specs.Requests.{words_by_slash, IsDigits, IsShare, HasNoShare, IsEffort, usual_boxes, order_name, resumes, HasBadValueFor}
 use Rattle.pv_args.specs.Found.{RefusesValues}
 use Rattle.pv_request.specs.declared.request.Effort.{Effort}
 use Rattle.pv_request.specs.declared.refusal.Refusal.{Refusal}
@@ -99,7 +99,7 @@ one_order : (o u : Order) → order_name o ≡ order_name u → o ≡ u
 one_order o u e = sym (order_of o) ∙ ap order_in e ∙ order_of u
 
 -- a share that is refused beside the order that the options give is a bad value
-pub bad_share : (rows : List Row) (e : Effort) (r : Refusal) → IsEffort rows e → RefusesValues (HasNoShare e.order (first_of (codes "share") rows)) r
+pub bad_share : (rows : List Row) (e : Effort) (r : Refusal) → IsEffort usual_boxes rows e → RefusesValues (HasNoShare e.order (first_of (codes "share") rows)) r
     → RefusesValues (HasBadValueFor resumes rows) r
 bad_share rows e Usage h none =
     inr (inr (inr (inr (λ o same. subst (λ (x : Order). HasNoShare x (first_of (codes "share") rows)) (one_order e.order o (sym h.order ∙ same)) none))))

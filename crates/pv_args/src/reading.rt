@@ -1,7 +1,7 @@
 //! From the words of a command to what they ask for.
 ghost use Rattle.std.specs.Prelude.{◌≡◌, ◌≢◌, ◌⊎◌, MatchBool, Some, List, codes, map, option_map, MatchOption, MatchResult, string_bytes, IfOk, IfErr, unwrap_or};
 ghost use Rattle.clap.specs.Words.{all_of, first_of, subcommand_rows_of};
-ghost use Rattle.pv_request.specs.Requests.{value_of, system_name, paving_names, names_in, AreSettings, IsEffort, ArePavings, IsOut, IsOutIn, IsOutput, IsTaken, IsTakenIn, HasBadOut, HasBadSetting, HasBadLimit, HasBadEffort, HasBadWorkers, AreWorkers, IsNodeLimit, IsShareIn, HasNoShare, IsView, AreGiven, AreCircles, HasManyPavings, HasBadLevels, HasBadCircles, IsSearch, HasBadBudget, IsRounds, HasBadRounds, HasBadValueFor, run_name, audit_name, runs, resumes, merges, audits, draws, samples, seeks, keeps, IsAskedBy, IsAsked, Asks, RefusesWords};
+ghost use Rattle.pv_request.specs.Requests.{value_of, limit_or_usual, system_name, paving_names, names_in, AreSettings, IsEffort, ArePavings, IsOut, IsOutIn, IsOutput, IsTaken, IsTakenIn, HasBadOut, HasBadSetting, HasBadLimit, HasBadEffort, HasBadWorkers, AreWorkers, IsNodeLimit, IsShareIn, HasNoShare, IsView, AreGiven, AreCircles, HasManyPavings, HasBadLevels, HasBadCircles, IsSearch, HasBadBudget, IsRounds, HasBadRounds, HasBadValueFor, run_name, audit_name, runs, resumes, merges, audits, draws, samples, seeks, keeps, IsAskedBy, IsAsked, Asks, RefusesWords};
 ghost use Rattle.pv_args.specs.Found.{rows_in, RefusesValues, RefusesCommand, RefusesFound};
 
 use crate::values::{
@@ -11,8 +11,8 @@ use clap::ArgMatches;
 use clap::error::ErrorKind;
 use pv_num::Num;
 use pv_request::{
-    Circles, Effort, MOST_CIRCLES, MOST_ROUNDS, MOST_SEED, Refusal, Request, Rounds, Search,
-    Settings, View, Workers,
+    Circles, Effort, MOST_CIRCLES, MOST_PAVINGS, MOST_ROUNDS, MOST_SEED, Refusal, Request, Rounds,
+    Search, Settings, View, Workers,
 };
 use pv_scope::{Order, Share};
 use pv_slope::Form;
@@ -97,7 +97,7 @@ fn run_in<'a>(usual: Form, found: &ArgMatches<'a>) -> Result<Request<'a>, Refusa
         Some(settings) => settings,
         None => return Err(Refusal::Usage),
     };
-    match effort_in(found) {
+    match effort_in(boxes_anew(found), found) {
         Some(effort) => Ok(Request::Run {
             system: text_in(found, "SYSTEM", ""),
             settings,
@@ -125,7 +125,7 @@ fn resume_in<'a>(alloc: Global, found: &ArgMatches<'a>) -> Result<Request<'a>, R
         Some(settings) => settings,
         None => return Err(Refusal::Usage),
     };
-    let effort = match effort_in(found) {
+    let effort = match effort_in("20000", found) {
         Some(effort) => effort,
         None => return Err(Refusal::Usage),
     };
@@ -312,7 +312,7 @@ fn search_in<'a>(found: &ArgMatches<'a>) -> Option<Search<'a>>
     ensures { MatchOption result (HasBadBudget (rows_in found.now)) (IsSearch (rows_in found.now)) }
 {
     let limit = limit_in(found)?;
-    let boxes = count_of(text_in(found, "boxes", "20000"), 1, limit.nodes())?;
+    let boxes = count_of(text_in(found, "boxes", boxes_anew(found)), 1, limit.nodes())?;
     Some(Search {
         of: text_in(found, "of", ""),
         limit,
@@ -328,7 +328,7 @@ fn campaign_in<'a>(found: &ArgMatches<'a>) -> Result<Request<'a>, Refusal<'a>>
         Some(settings) => settings,
         None => return Err(Refusal::Usage),
     };
-    let effort = match effort_in(found) {
+    let effort = match effort_in("20000", found) {
         Some(effort) => effort,
         None => return Err(Refusal::Usage),
     };
@@ -372,12 +372,22 @@ fn settings_in<'a>(usual: Form, found: &ArgMatches<'a>) -> Option<Settings<'a>>
     })
 }
 
-fn effort_in(found: &ArgMatches<'_>) -> Option<Effort>
-    ensures { MatchOption result (HasBadEffort (rows_in found.now)) (IsEffort (rows_in found.now)) }
+// The budget of a command that begins anew, where none is given: the limit that is, so that a limit
+// alone says how much is wanted.
+fn boxes_anew<'a>(found: &ArgMatches<'a>) -> &'a str
+    ensures { result.now ≡ limit_or_usual (rows_in found.now) }
+{
+    text_in(found, "limit", "20000")
+}
+
+// The effort, with the text of the budget that stands where none is given.
+fn effort_in<'a>(usual: &'a str, found: &ArgMatches<'a>) -> Option<Effort>
+    ensures { MatchOption result (HasBadEffort usual.entry.now (rows_in found.now))
+        (IsEffort usual.entry.now (rows_in found.now)) }
 {
     let limit = limit_in(found)?;
     let workers = count_of(text_in(found, "workers", "4"), 1, MOST_WORKERS as u64)? as u32;
-    let nodes = count_of(text_in(found, "boxes", "20000"), 1, limit.nodes())?;
+    let nodes = count_of(text_in(found, "boxes", usual), 1, limit.nodes())?;
     let order = order_of(text_in(found, "order", "depth"))?;
     let budget = Budget {
         nodes,
@@ -410,7 +420,7 @@ fn pavings_in<'a>(alloc: Global, found: &ArgMatches<'a>) -> Result<Vec<&'a str>,
         Ok(names) => names,
         Err(refusal) => return Err(refusal),
     };
-    if names.len() <= 8 {
+    if names.len() <= MOST_PAVINGS {
         Ok(names)
     } else {
         Err(Refusal::Usage)
@@ -454,7 +464,7 @@ fn out_beside<'a>(system: &str, name: &'a str) -> Result<Option<&'a str>, Refusa
 }
 
 // Whether a name is the system's, or one of the standard output.
-fn is_taken(system: &str, name: &str) -> bool
+pub(crate) fn is_taken(system: &str, name: &str) -> bool
     ensures { MatchBool result (IsTaken system.now name.now) (IsTaken system.now name.now → ⊥) }
 {
     if name == system {

@@ -4,9 +4,9 @@ ghost use Rattle.pv_tree.specs.Pieces.{all_nodes};
 ghost use Rattle.pv_audit.specs.Reports.{IsReport};
 
 use crate::report::{Difference, Report};
-use pv_join::{blank, differing};
+use pv_join::differing;
 use pv_num::Memory;
-use pv_tree::{Paving, Settler, Walk};
+use pv_tree::{Paving, Settler, Walk, blank};
 use std::alloc::Global;
 use std::sync::atomic::{AtomicU64, Ordering};
 

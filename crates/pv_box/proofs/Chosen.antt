@@ -1,17 +1,18 @@
 -- The choice of a place, in words.
-use Rattle.std.proofs.Common.{◌≡◌, ℕ, zero, suc, ◌+◌, ◌-◌, ◌%◌, ◌<◌, ◌≤◌, List, [], ◌∷◌, length, refl, sym, ◌∙◌, ap, subst, inl, inr, arith, cond}
+use Rattle.std.proofs.Common.{◌≡◌, ℕ, zero, suc, ◌+◌, ◌-◌, ◌%◌, ◌<◌, ◌≤◌, List, [], ◌∷◌, length, refl, sym, ◌∙◌, ap, subst, inl, inr, arith, cond, get_or}
 use Rattle.std.specs.Prelude.{Option, Some, None, IsSome, IsTrue, Bool, true, false, drop, option_and_then, slice_get}
-use Rattle.std.proofs.lemmas.Bool.{true≢false}
+use Rattle.std.proofs.lemmas.Bool.{true≢false, cases_eq}
 use Rattle.pv_num.specs.Extended.{Extended}
-use Rattle.pv_num.specs.Order.{le}
-use Rattle.pv_num.proofs.Orders.{le-refl, le-trans}
-use Rattle.pv_interval.specs.Bounds.{Bounds}
+use Rattle.pv_num.specs.Order.{le, lt}
+use Rattle.pv_num.proofs.Orders.{le-refl, le-trans, le-antisym}
+use Rattle.pv_interval.specs.Bounds.{Bounds, everything}
 use Rattle.pv_interval.specs.Tables.{width_of}
 use Rattle.pv_box.specs.declared.choice.Candidate.{Candidate}
 use Rattle.pv_box.specs.declared.choice.Bisector.{Bisector}
 use Rattle.pv_box.specs.declared.choice.Bisector.TheVariants.{Largest, Round}
-use Rattle.pv_box.specs.Choice.{cut_of, cut_at, CanBeCut, width_at, IsNext, IsChoice, wider, widest_from, choice_of, at_or_later, first_from, or_else, choose_of}
-use Rattle.pv_interval.proofs.Ends.{le_of_false}
+use Rattle.pv_box.proofs.Hulls.{in_range}
+use Rattle.pv_box.specs.Choice.{cut_of, cut_at, CanBeCut, width_at, IsNext, IsChoice, IsWidestBelow, wider, widest_from, choice_of, at_or_later, first_from, or_else, choose_of}
+use Rattle.pv_interval.proofs.Ends.{le_of_false, lt_from, lt_not}
 
 not_both : (o : Option Extended) → o ≡ None → IsSome o → ⊥
 not_both o e s = none_is_not (subst IsSome e s)
@@ -86,6 +87,84 @@ best_grown i x xs (Some a) e (Some m) h = go (le m.width (width_of x)) refl
 best_from : (i : ℕ) (xs : List Bounds) → Best i xs (widest_from i xs)
 best_from i [] = λ k. refl
 best_from i (x ∷ xs) = best_grown i x xs (cut_of x) refl (widest_from (i + 1) xs) (best_from (i + 1) xs)
+
+-- ---- The widest of all places, with its cut
+
+pub only_place : (b : List Bounds) → IsWidestBelow 1 b 0
+only_place b = record {
+  within = omega arith;
+  widest = λ k l. let z : 0 ≡ k = omega arith in subst (λ j. IsTrue (le (width_at b j) (width_at b 0))) z (le-refl (width_at b 0));
+  first = λ k l w. omega arith;
+}
+
+pub wider_place : (n : ℕ) (b : List Bounds) (v : ℕ) → IsWidestBelow n b v → lt (width_at b v) (width_at b n) ≡ true → IsWidestBelow (n + 1) b n
+wider_place n b v h w = record {
+  within = omega arith;
+  widest = λ k l. elim (cases_eq k n) [
+    | inl p ↦ subst (λ j. IsTrue (le (width_at b j) (width_at b n))) (sym p) (le-refl (width_at b n))
+    | inr p ↦ le-trans (width_at b k) (width_at b v) (width_at b n) (h.widest k (omega (arith, p))) (le_of_false (width_at b n) (width_at b v) (lt_not (width_at b v) (width_at b n) w))
+  ];
+  first = λ k l e. elim (cases_eq k n) [
+    | inl p ↦ omega (arith, p)
+    | inr p ↦ absurd (true≢false (sym (subst (λ x. IsTrue (le x (width_at b v))) e (h.widest k (omega (arith, p)))) ∙ lt_not (width_at b v) (width_at b n) w))
+  ];
+}
+
+pub same_place : (n : ℕ) (b : List Bounds) (v : ℕ) → IsWidestBelow n b v → lt (width_at b v) (width_at b n) ≡ false → IsWidestBelow (n + 1) b v
+same_place n b v h w = record {
+  within = let l = h.within in omega arith;
+  widest = λ k l. elim (cases_eq k n) [
+    | inl p ↦ subst (λ j. IsTrue (le (width_at b j) (width_at b v))) (sym p) (not_less (width_at b n) (width_at b v) w)
+    | inr p ↦ h.widest k (omega (arith, p))
+  ];
+  first = λ k l e. elim (cases_eq k n) [
+    | inl p ↦ let m = h.within in omega (arith, p)
+    | inr p ↦ h.first k (omega (arith, p)) e
+  ];
+}
+  where
+    not_less : (x y : Extended) → lt y x ≡ false → IsTrue (le x y)
+    not_less x y e = go (le x y) refl
+      where
+        go : (t : Bool) → le x y ≡ t → IsTrue (le x y)
+        go true t = t
+        go false t = absurd (true≢false (sym (lt_from y x t) ∙ e))
+
+pub width_read : (b : List Bounds) (v : ℕ) (x : Bounds) → v < length b → x ≡ get_or b v x → width_of x ≡ width_at b v
+width_read b v x l e = ap width_of (e ∙ in_range b v x everything l)
+
+pub compared : (x y u w : Extended) (t : Bool) → x ≡ u → y ≡ w → lt x y ≡ t → lt u w ≡ t
+compared x y u w t e f h = ap (λ z. lt z w) (sym e) ∙ ap (lt x) (sym f) ∙ h
+
+cut_there : (b : List Bounds) (k : ℕ) (a : Extended) → cut_at b k ≡ Some a → k < length b
+cut_there [] k a e = absurd (cc)
+cut_there (x ∷ b) zero a e = omega arith
+cut_there (x ∷ b) (suc k) a e = let l = cut_there b k a e in omega (arith, l)
+
+cut_read : (b : List Bounds) (v : ℕ) (x : Bounds) → v < length b → x ≡ get_or b v x → cut_at b v ≡ cut_of x
+cut_read [] v x l e = absurd (omega arith)
+cut_read (y ∷ b) zero x l e = ap cut_of (sym e)
+cut_read (y ∷ b) (suc v) x l e = cut_read b v x (omega arith) e
+
+can_cut : (b : List Bounds) (k : ℕ) (a : Extended) → cut_at b k ≡ Some a → CanBeCut b k
+can_cut b k a e = subst IsSome (sym e) refl
+
+chosen_top : (b : List Bounds) (v : ℕ) (a : Extended) → IsWidestBelow (length b) b v → cut_at b v ≡ Some a → (o : Option Candidate) → Best 0 b o → Some (v, a) ≡ choice_of o
+chosen_top b v a h e None best = absurd (let n = best v in cc)
+chosen_top b v a h e (Some m) best =
+    let l = cut_there b best.place m.at best.cut in
+    let w : width_at b best.place ≡ width_at b v =
+    le-antisym (width_at b best.place) (width_at b v) (h.widest best.place l) (subst (λ x. IsTrue (le (width_at b v) x)) (sym best.width) (best.widest v (can_cut b v a e))) in
+    let below = h.first best.place l w in
+    let above = best.first v (can_cut b v a e) (sym w ∙ best.width) in
+    let same : best.place ≡ v = omega (arith, below, above) in
+    let var : m.var ≡ v = let i = best.is in omega (arith, same, i) in
+    let cut : Some m.at ≡ Some a = sym best.cut ∙ ap (cut_at b) same ∙ e in
+    cc
+
+-- where the first place of greatest width can be cut, it is chosen
+pub chosen_widest : (b : List Bounds) (v : ℕ) (a : Extended) (x : Bounds) → IsWidestBelow (length b) b v → x ≡ get_or b v x → Some a ≡ cut_of x → Some (v, a) ≡ choice_of (widest_from 0 b)
+chosen_widest b v a x h is e = chosen_top b v a h (cut_read b v x h.within is ∙ sym e) (widest_from 0 b) (best_from 0 b)
 
 -- ---- The next place
 

@@ -59,6 +59,12 @@ pub record IsWidest (b : List Bounds) (v : ℕ) : Type 0 where
   pub widest : (k : ℕ) → CanBeCut b k → IsTrue (le (width_at b k) (width_at b v))
   pub first : (k : ℕ) → CanBeCut b k → width_at b k ≡ width_at b v → v ≤ k
 
+-- of the places below number n, whether or not they can be cut, v is the first of greatest width
+pub record IsWidestBelow (n : ℕ) (b : List Bounds) (v : ℕ) : Type 0 where
+  pub within : v < n
+  pub widest : (k : ℕ) → k < n → IsTrue (le (width_at b k) (width_at b v))
+  pub first : (k : ℕ) → k < n → width_at b k ≡ width_at b v → v ≤ k
+
 -- going round from place t on, place k comes before place v
 abbrev pub ComesBefore : ℕ → ℕ → ℕ → Type 0
 ComesBefore t k v = ((t ≤ k) × (k < v)) ⊎ ((v < t) × ((t ≤ k) ⊎ (k < v)))

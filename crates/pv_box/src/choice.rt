@@ -4,7 +4,7 @@ ghost use Rattle.pv_num.specs.Extended.{Extended, NegInf, PosInf};
 ghost use Rattle.pv_num.specs.Order.{le, lt};
 ghost use Rattle.pv_interval.specs.Bounds.{Bounds, IsInterval};
 ghost use Rattle.pv_box.specs.Boxes.{IsInside, IsInsidePlace};
-ghost use Rattle.pv_box.specs.Choice.{choose_of, wider as wider_of, cut_of as cut_in, cut_at, IsChosen, cut_between, strictly_between, widest_from as widest_of, first_from as first_of, is_small_of, choice_of, round_from};
+ghost use Rattle.pv_box.specs.Choice.{choose_of, wider as wider_of, cut_of as cut_in, cut_at, IsChosen, IsWidestBelow, cut_between, strictly_between, widest_from as widest_of, first_from as first_of, is_small_of, choice_of, round_from};
 
 use crate::IBox;
 use pv_interval::Interval;
@@ -56,8 +56,39 @@ impl IBox {
         }
     }
 
-    // The first place of greatest width among those that can be cut.
+    // The first place of greatest width among those that can be cut: nearly always the first of
+    // greatest width among all, so that one cut is worked out.
     fn widest(&self) -> Option<(u8, Num)>
+        ensures widest { result ≡ choice_of (widest_of 0 self.now) }
+        ensures place { IfSome result (λ c. c.0 < length self.now) }
+        ensures inside { IfSome result (λ c. IsInsidePlace c.1 c.0 self.now) }
+    {
+        let var = self.widest_place();
+        match cut_of(self.get(var)) {
+            Some(at) => Some((var, at)),
+            None => self.widest_cut(),
+        }
+    }
+
+    // The first place of greatest width.
+    fn widest_place(&self) -> u8
+        ensures { IsWidestBelow (length self.now) self.now result }
+    {
+        let dims = self.dims();
+        let mut widest = 0;
+        let mut width = self.get(0).width();
+        for i in 1..dims {
+            let other = self.get(i).width();
+            if width < other {
+                widest = i;
+                width = other;
+            }
+        }
+        widest
+    }
+
+    // As `widest`, with a cut worked out for each place that may be the widest.
+    fn widest_cut(&self) -> Option<(u8, Num)>
         ensures widest { result ≡ choice_of (widest_of 0 self.now) }
         ensures place { IfSome result (λ c. c.0 < length self.now) }
         ensures inside { IfSome result (λ c. IsInsidePlace c.1 c.0 self.now) }

@@ -1,8 +1,8 @@
 -- What a revision that tells what it saw says of the constraint.
-use Rattle.std.proofs.Common.{◌≡◌, List, refl, ap, sym, ◌∙◌, get_or}
+use Rattle.std.proofs.Common.{◌≡◌, ℕ, zero, suc, ◌<◌, List, [], ◌∷◌, take, refl, ap, sym, ◌∙◌, get_or, arith}
 use Rattle.std.specs.Prelude.{Some, Bool, true, false, ◌&&◌, All}
 use Rattle.pv_interval.specs.Bounds.{Bounds, IsInterval}
-use Rattle.pv_hc4.specs.Chain.{chain}
+use Rattle.pv_hc4.specs.Chain.{chain, at}
 use Rattle.pv_hc4.specs.Forward.{forward_of}
 use Rattle.pv_hc4.specs.Graphs.{AreValues, IsGraph, IsAnswer, Parts, sides_of}
 use Rattle.pv_hc4.specs.Revise.{revised}
@@ -41,3 +41,12 @@ none_sure g b h p = ap (decided g.relation) (sides_none g b h p)
 -- a constraint that is sure keeps the box
 pub sure_kept : (g : Parts) (b : List Bounds) → IsGraph g → All IsInterval b → sure_of (sides_of g) b ≡ true → IsAnswer (revised (sides_of g) b) Kept b b
 sure_kept g b h k e = kept_whole (revised (sides_of g) b) b (sure-keeps (sides_of g) g.dims b h.left_over h.right_over k e)
+
+-- what is the same of two boxes up to a place
+pub at_taken : (n k : ℕ) (a b : List Bounds) → take n a ≡ take n b → k < n → at a k ≡ at b k
+at_taken zero k a b e h = absurd (omega arith)
+at_taken (suc n) k [] [] e h = refl
+at_taken (suc n) k [] (y ∷ b) e h = absurd (cc)
+at_taken (suc n) k (x ∷ a) [] e h = absurd (cc)
+at_taken (suc n) zero (x ∷ a) (y ∷ b) e h = cc
+at_taken (suc n) (suc k) (x ∷ a) (y ∷ b) e h = let t : take n a ≡ take n b = cc in at_taken n k a b t (omega arith)

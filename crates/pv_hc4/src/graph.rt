@@ -15,7 +15,7 @@ use crate::node::Node;
 use crate::revised::Revised;
 use crate::steps::Steps;
 use crate::total::{decides, is_total};
-use pv_box::IBox;
+use pv_box::{IBox, MOST_PLACES};
 use pv_expr::{Constraint, Relation};
 use pv_interval::Interval;
 use pv_num::Memory;
@@ -232,10 +232,12 @@ fn forward_values(
     })
 }
 
-/// Room for one interval a node, kept from one call to the next.
+/// Room for one interval a node and for the places of a box, kept from one call to the next.
 #[derive(Drop)]
 pub struct Scratch {
     pub(crate) values: Vec<Interval>,
+    // The box as a revision found it.
+    pub(crate) saved: [Interval; MOST_PLACES],
 }
 
 impl Scratch {
@@ -243,6 +245,7 @@ impl Scratch {
     pub fn new(alloc: Global) -> Scratch {
         Scratch {
             values: Vec::new(alloc),
+            saved: [Interval::ALL; MOST_PLACES],
         }
     }
 }

@@ -1,6 +1,6 @@
 // A revision that tells what it saw.
 
-ghost use Rattle.std.specs.Prelude.{◌≡◌, ◌↔◌, IsTrue, ℕ, ◌<◌, length, false, IfOk, OnErr};
+ghost use Rattle.std.specs.Prelude.{◌≡◌, ◌↔◌, IsTrue, ℕ, ◌<◌, ◌≤◌, length, take, false, IfOk, OnErr};
 ghost use Rattle.pv_hc4.specs.Graphs.{AreValues, AreReady, IsAnswer, IsGraph, sides_of};
 ghost use Rattle.pv_hc4.specs.Nodes.{AreOrdered, terms, term_at};
 ghost use Rattle.pv_hc4.specs.Revise.{revised, narrowed_of};
@@ -14,10 +14,10 @@ use crate::marks::Marks;
 use crate::narrow::narrow;
 use crate::node::Node;
 use crate::relate::related;
-use crate::revise::{copied, is_same, restore};
+use crate::revise::{first_changed, restore, save};
 use crate::revised::Revised;
 use crate::total::{decides, is_total};
-use pv_box::IBox;
+use pv_box::{IBox, MOST_PLACES};
 use pv_expr::Relation;
 use pv_interval::Interval;
 use pv_num::Memory;
@@ -67,18 +67,20 @@ impl Graph {
             self.relation,
             self.right,
             &mut scratch.values,
+            &mut scratch.saved,
             bx,
         ))
     }
 }
 
-// The places that are not as they were.
-fn changed_places(entry: &[Interval], bx: &IBox) -> Marks
-    requires { length bx.now ≡ length entry.now }
+// The places that are not as they were, where all before `start` are.
+fn changed_from(start: u8, entry: &[Interval], bx: &IBox) -> Marks
+    requires dims { length bx.now ≡ length entry.now }
+    requires before { take start bx.now ≡ take start entry.now }
     ensures { AreChanged result entry.now bx.now }
 {
     let mut changed = Marks::none();
-    for i in 0..bx.dims() {
+    for i in start..bx.dims() {
         if !is_equal(entry[i as usize], place(bx, i)) {
             changed = changed.with(i);
         }
@@ -100,6 +102,7 @@ fn judge_sides(
     right: usize,
     both: (Interval, Interval),
     rests: bool,
+    saved: &mut [Interval; MOST_PLACES],
     bx: &mut IBox,
 ) -> Judged
     requires rest { MayRest rests bx.old bx.old nodes.now }
@@ -112,15 +115,14 @@ fn judge_sides(
     ensures unsure { is_sure_by result ≡ false }
     ensures changed { MarksChanged result bx.old bx.new }
 {
-    let saved = copied(bx);
+    save(saved, bx);
     let entry = &saved[..bx.dims() as usize];
     if narrow(nodes, values, rests, left, both.0, entry, bx)
         && narrow(nodes, values, rests, right, both.1, entry, bx)
     {
-        if is_same(entry, bx) {
-            Judged::Kept
-        } else {
-            Judged::Changed(changed_places(entry, bx))
+        match first_changed(entry, bx) {
+            Some(first) => Judged::Changed(changed_from(first, entry, bx)),
+            None => Judged::Kept,
         }
     } else {
         restore(entry, bx);
@@ -188,6 +190,7 @@ pub fn judge_values(
     relation: Relation,
     right: usize,
     values: &mut [Interval],
+    saved: &mut [Interval; MOST_PLACES],
     bx: &mut IBox,
 ) -> Judged
     requires graph { IsGraph (record {
@@ -226,7 +229,7 @@ pub fn judge_values(
     match related(relation, values[left], values[right]) {
         Some(both) => {
             let rests = may_rest(nodes, values, left, relation, right, bx);
-            judge_sides(nodes, values, left, right, both, rests, bx)
+            judge_sides(nodes, values, left, right, both, rests, saved, bx)
         }
         None => Judged::Empty,
     }

@@ -1,32 +1,32 @@
 //! Boxes as they were before a revision.
 
-ghost use Rattle.std.specs.Prelude.{◌≡◌, ◌↔◌, IsTrue, ℕ, ◌<◌, ◌≤◌, length, take};
+ghost use Rattle.std.specs.Prelude.{◌≡◌, ◌≢◌, ℕ, ◌<◌, ◌≤◌, IfNone, IfSome, length, take};
 
 use crate::forward::place;
 use pv_box::{IBox, MOST_PLACES};
 use pv_interval::Interval;
 
-// The places of a box.
-pub(crate) fn copied(bx: &IBox) -> [Interval; MOST_PLACES]
-    ensures { take (length bx.now) result ≡ bx.now }
+// Writes the places of a box over the first ones of a list.
+pub(crate) fn save(places: &mut [Interval; MOST_PLACES], bx: &IBox)
+    ensures { take (length bx.now) places.new ≡ bx.now }
 {
-    let mut places = [Interval::ALL; MOST_PLACES];
     for i in 0..bx.dims() {
         places[i as usize] = place(bx, i);
     }
-    places
 }
 
-pub(crate) fn is_same(entry: &[Interval], bx: &IBox) -> bool
+// The first place that is not as it was.
+pub(crate) fn first_changed(entry: &[Interval], bx: &IBox) -> Option<u8>
     requires { length bx.now ≡ length entry.now }
-    ensures { IsTrue result ↔ (bx.now ≡ entry.now) }
+    ensures same { IfNone result (bx.now ≡ entry.now) }
+    ensures changed { IfSome result (λ i. (bx.now ≢ entry.now) × (take i bx.now ≡ take i entry.now)) }
 {
     for i in 0..bx.dims() {
         if entry[i as usize] != place(bx, i) {
-            return false;
+            return Some(i);
         }
     }
-    true
+    None
 }
 
 pub(crate) fn restore(entry: &[Interval], bx: &mut IBox)

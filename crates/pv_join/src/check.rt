@@ -5,11 +5,10 @@ ghost use Rattle.pv_tree.specs.Sets.{IsSound, Covers};
 ghost use Rattle.pv_tree.specs.Pieces.{IsPiece};
 ghost use Rattle.pv_join.specs.Audits.{IsVerdict, IsChecked, IsSoundIfHonest};
 
-use crate::outcomes::blank;
 use crate::verdict::Audit;
 use pv_box::IBox;
 use pv_num::Memory;
-use pv_tree::{Outcome, Paving, Settler, Shape, Walk};
+use pv_tree::{Outcome, Paving, Settler, Shape, Walk, blank, settle_at};
 use std::alloc::Global;
 
 /// Whether the node just visited, which has this shape, is settled so. `scratch` takes what the
@@ -76,9 +75,7 @@ pub fn differing<S: Settler>(
         return Ok(None);
     }
     walk.write_box(scratch);
-    let steps = walk.path().len();
-    let cuts_left = settler.depth().saturating_sub(steps);
-    let outcome = settler.settle(alloc, scratch, cuts_left, steps)?;
+    let outcome = settle_at(alloc, settler, scratch, walk.path())?;
     if shows(walk, shape, &outcome, scratch) {
         Ok(None)
     } else {

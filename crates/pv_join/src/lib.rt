@@ -9,5 +9,4 @@ mod verdict;
 
 pub use check::{audit, differing};
 pub use merge::{JoinRefused, join, overlay};
-pub use outcomes::blank;
 pub use verdict::Audit;

@@ -4,9 +4,9 @@ ghost use Rattle.pv_tree.specs.Trees.{Tree, subtree, outcome_at, box_of, Fits, H
 ghost use Rattle.pv_join.specs.Joins.{IsJoin, IsOverlaid, IsRefusal, IsReady, IsSettledAs, IsMismatch, IsJoinRefusal, HasJoinLaws, AreNoStages, is_a_cut};
 
 use crate::meeting::{lay, one_of, outcome_from, step_past};
-use crate::outcomes::{blank, outcome_of, same_outcome};
+use crate::outcomes::{outcome_of, same_outcome};
 use pv_num::Memory;
-use pv_tree::{Growth, Outcome, Path, Paving, Walk};
+use pv_tree::{Growth, Outcome, Path, Paving, Walk, blank};
 use std::alloc::Global;
 
 /// Why two pavings have no join.

@@ -1,26 +1,11 @@
 //! Outcomes of a paving's nodes, and when two outcomes are the same.
 ghost use Rattle.std.specs.Prelude.{◌≡◌, ◌+◌, ◌<◌, ◌≤◌, ◌↔◌, IsTrue, IfOk, IsSome, Some, length, vec_len};
 ghost use Rattle.pv_tree.specs.Trees.{subtree, outcome_at, to_at};
-ghost use Rattle.pv_box.specs.declared.boxes.TheConstants.{MOST_PLACES};
 
 use pv_box::IBox;
-use pv_interval::Interval;
 use pv_num::Memory;
-use pv_tree::{Outcome, Path, Paving, Shape};
+use pv_tree::{Outcome, Path, Paving, Shape, blank};
 use std::alloc::Global;
-
-/// A box of `places` places.
-pub fn blank(alloc: Global, places: u8) -> Result<IBox, Memory>
-    requires some { 0 < places }
-    requires few { places ≤ MOST_PLACES }
-    ensures { IfOk result (λ b. length b ≡ places) }
-{
-    let mut parts = Vec::new(alloc);
-    for _ in 0..places {
-        parts.push(Interval::ALL)?;
-    }
-    Ok(IBox::new(parts))
-}
 
 /// What the settled node at a path kept.
 fn kept(alloc: Global, paving: &Paving, path: Path) -> Result<IBox, Memory>

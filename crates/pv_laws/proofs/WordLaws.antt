@@ -6,7 +6,7 @@ use Rattle.std.specs.Borrow.{Bor}
 use Rattle.std.proofs.lemmas.List.{length-map}
 use Rattle.clap.specs.Words.{Row, Text, subcommand_of}
 use Rattle.pv_words.specs.Commands.{paver_app}
-use Rattle.pv_request.specs.Requests.{names_in, paving_names, AreSettings, IsEffort, ArePavings, HasBadSetting, bad_eps, bad_depth, bad_bisector, HasBadEffort, bad_form, bad_limit, bad_workers, bad_boxes, bad_order, HasBadLimit, HasBadBoxes, HasBadBudget, IsCount, IsNodeLimit, IsSearch, boxes_text, HasManyPavings, AreCircles, HasBadCircles, bad_seed, bad_count, Command, checks, runs, resumes, merges, audits, draws, samples, seeks, keeps, name_of, HasBadValueFor, HasBadValue, IsAskedBy, IsAsked, Asks, HasBadValueIn, AreRefused, RefusesWords}
+use Rattle.pv_request.specs.Requests.{names_in, paving_names, AreSettings, IsEffort, ArePavings, HasBadSetting, bad_eps, bad_depth, bad_bisector, HasBadEffort, bad_form, bad_limit, bad_workers, bad_boxes, bad_order, HasBadLimit, HasBadBoxes, HasBadBudget, IsCount, IsNodeLimit, IsSearch, boxes_text, usual_boxes, limit_or_usual, HasManyPavings, AreCircles, HasBadCircles, bad_seed, bad_count, Command, checks, runs, resumes, merges, audits, draws, samples, seeks, keeps, name_of, HasBadValueFor, HasBadValue, IsAskedBy, IsAsked, Asks, HasBadValueIn, AreRefused, RefusesWords}
 use Rattle.pv_request.specs.Refusals.{status_of}
 use Rattle.pv_product.specs.Ends.{Stream, Outside, IsRefusedSo, in_words, in_request, Tells}
 use Rattle.pv_laws.specs.StatusLaws.{AskingIsNotRefused, IsWordsRefused, RefusedWordsEnd, HaveBadText, UsageIsOfWords}
@@ -31,22 +31,25 @@ settings_are_good usual rows s h (bad_bisector none) = none s.bisector h.bisecto
 settings_are_good usual rows s h (bad_form none) = none s.form h.form
 
 -- the budget is within the limit that the options give
-boxes_are_good : (rows : List Row) (limit boxes : ℕ) → IsNodeLimit rows limit → IsCount 1 limit (boxes_text rows) boxes → HasBadBoxes rows → ⊥
-boxes_are_good rows limit boxes h k none = none boxes (subst (λ (n : ℕ). IsCount 1 n (boxes_text rows) boxes) h.number.value k)
+boxes_are_good : (usual : Text) (rows : List Row) (limit boxes : ℕ) → IsNodeLimit rows limit → IsCount 1 limit (boxes_text usual rows) boxes
+    → HasBadBoxes usual rows → ⊥
+boxes_are_good usual rows limit boxes h k none =
+    none boxes (subst (λ (n : ℕ). IsCount 1 n (boxes_text usual rows) boxes) h.number.value k)
 
-effort_is_good : (rows : List Row) (e : Effort) → IsEffort rows e → HasBadEffort rows → ⊥
-effort_is_good rows e h (bad_limit none) = none e.budget.limit h.limit
-effort_is_good rows e h (bad_workers none) = none e.budget.workers h.workers
-effort_is_good rows e h (bad_boxes none) = boxes_are_good rows e.budget.limit e.budget.nodes h.limit h.boxes none
-effort_is_good rows e h (bad_order none) = none e.order h.order
+effort_is_good : (usual : Text) (rows : List Row) (e : Effort) → IsEffort usual rows e → HasBadEffort usual rows → ⊥
+effort_is_good usual rows e h (bad_limit none) = none e.budget.limit h.limit
+effort_is_good usual rows e h (bad_workers none) = none e.budget.workers h.workers
+effort_is_good usual rows e h (bad_boxes none) = boxes_are_good usual rows e.budget.limit e.budget.nodes h.limit h.boxes none
+effort_is_good usual rows e h (bad_order none) = none e.order h.order
 
 search_is_good : (rows : List Row) (search : Search) → IsSearch rows search → HasBadBudget rows → ⊥
 search_is_good rows search h (inl none) = none search.limit h.limit
-search_is_good rows search h (inr none) = boxes_are_good rows search.limit search.boxes h.limit h.boxes none
+search_is_good rows search h (inr none) = boxes_are_good (limit_or_usual rows) rows search.limit search.boxes h.limit h.boxes none
 
-work_is_good : (usual : Form) (rows : List Row) (s : Settings) (e : Effort) → AreSettings usual rows s → IsEffort rows e → HasBadSetting usual rows ⊎ HasBadEffort rows → ⊥
-work_is_good usual rows s e h k (inl b) = settings_are_good usual rows s h b
-work_is_good usual rows s e h k (inr b) = effort_is_good rows e k b
+work_is_good : (usual : Form) (budget : Text) (rows : List Row) (s : Settings) (e : Effort) → AreSettings usual rows s
+    → IsEffort budget rows e → HasBadSetting usual rows ⊎ HasBadEffort budget rows → ⊥
+work_is_good usual budget rows s e h k (inl b) = settings_are_good usual rows s h b
+work_is_good usual budget rows s e h k (inr b) = effort_is_good budget rows e k b
 
 join_is_good : (usual : Form) (rows : List Row) (s : Settings) (limit : ℕ) → AreSettings usual rows s → IsNodeLimit rows limit → HasBadSetting usual rows ⊎ HasBadLimit rows → ⊥
 join_is_good usual rows s limit h k (inl b) = settings_are_good usual rows s h b
@@ -144,11 +147,13 @@ ask_alike words q r h k = asked_alike (subcommand_of paver_app words) q r h.1 k.
 values_are_good : (name : Text) (rows : List Row) (q : Request) → (h : IsAskedBy name rows q) → HasBadValueFor (command_of (usual_of name rows q h) q) rows → ⊥
 values_are_good name rows (Check system) h b = b
 values_are_good name rows (Run system settings effort out) h (inl b) = h.3.free b
-values_are_good name rows (Run system settings effort out) h (inr b) = work_is_good h.0.0 rows settings effort h.0.1.1 h.2 b
+values_are_good name rows (Run system settings effort out) h (inr b) =
+    work_is_good h.0.0 (limit_or_usual rows) rows settings effort h.0.1.1 h.2 b
 values_are_good name rows (Resume system pavings settings effort share out) h (inl b) = h.6.free b
 values_are_good name rows (Resume system pavings settings effort share out) h (inr (inl b)) = pavings_are_few rows pavings.items h.2 b
 values_are_good name rows (Resume system pavings settings effort share out) h (inr (inr (inl b))) = settings_are_good Plain rows settings h.3 b
-values_are_good name rows (Resume system pavings settings effort share out) h (inr (inr (inr (inl b)))) = effort_is_good rows effort h.4 b
+values_are_good name rows (Resume system pavings settings effort share out) h (inr (inr (inr (inl b)))) =
+    effort_is_good usual_boxes rows effort h.4 b
 values_are_good name rows (Resume system pavings settings effort share out) h (inr (inr (inr (inr b)))) = b effort.order h.4.order share h.5
 values_are_good name rows (Merge system pavings settings limit out) h (inl b) = h.5.free b
 values_are_good name rows (Merge system pavings settings limit out) h (inr (inl b)) = pavings_are_few rows pavings.items h.2 b
@@ -162,7 +167,7 @@ values_are_good name rows (Sample circles) h b = circles_are_good rows circles h
 values_are_good name rows (Least system settings search) h (inl b) = settings_are_good Plain rows settings h.2 b
 values_are_good name rows (Least system settings search) h (inr b) = search_is_good rows search h.3 b
 values_are_good name rows (Campaign system settings effort rounds) h (inl b) = settings_are_good Plain rows settings h.2 b
-values_are_good name rows (Campaign system settings effort rounds) h (inr (inl b)) = effort_is_good rows effort h.3 b
+values_are_good name rows (Campaign system settings effort rounds) h (inr (inl b)) = effort_is_good usual_boxes rows effort h.3 b
 values_are_good name rows (Campaign system settings effort rounds) h (inr (inr b)) = b rounds.count h.4.count
 
 asked_is_good : (name : Text) (rows : List Row) (q : Request) → IsAskedBy name rows q → HasBadValue name rows → ⊥

@@ -1,5 +1,5 @@
 -- One step of a search: what it asks of the leaf that comes next, and that it brings the end nearer.
-use Rattle.std.proofs.Common.{◌≡◌, ℕ, ◌-◌, ◌<◌, ◌≤◌, Bool, IsTrue, List, length, refl, sym, ◌∙◌, ap, subst, arith}
+use Rattle.std.proofs.Common.{◌≡◌, ℕ, ◌+◌, ◌-◌, ◌<◌, ◌≤◌, Bool, IsTrue, List, length, refl, sym, ◌∙◌, ap, subst, arith}
 use Rattle.std.specs.Prelude.{Option}
 use Rattle.pv_num.specs.Extended.{Extended}
 use Rattle.pv_interval.specs.Bounds.{Bounds}
@@ -20,6 +20,10 @@ use Rattle.pv_least.specs.Objectives.{low_of, admits}
 use Rattle.pv_least.specs.Searches.{upper_of}
 use Rattle.pv_least.specs.Running.{HasDims, IsSearch, passed_by, settled_by}
 use Rattle.pv_least.proofs.Searching.{search_passes, search_settles}
+
+-- a path from the root of all has its own steps
+pub from_root : (rule : Rule) (depth : ℕ) (b : List Bounds) (p : List Bool) → rule b (depth - (0 + length p)) (0 + length p) ≡ rule b (depth - length p) (length p)
+from_root rule depth b p = let same : 0 + length p ≡ length p = omega arith in ap (λ n. rule b (depth - n) n) same
 
 fits_dims : (n : ℕ) (b : List Bounds) (o : Outcome) → Fits b o → length b ≡ n → HasDims n o
 fits_dims n b Removed h e = tt

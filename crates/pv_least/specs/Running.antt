@@ -84,3 +84,9 @@ pub record IsSearch (rule : Rule) (depth : ℕ) (t : Term) (root : List Bounds) 
 -- how many steps are left at most
 abbrev pub steps_left : ℕ → Growing → Least → ℕ
 steps_left budget g l = 2 * (budget - l.settled) + length g.holes
+
+-- A search that has no leaf to come.
+pub record IsEnded (rule : Rule) (depth : ℕ) (t : Term) (b : List Bounds) (budget : ℕ) (l : Least) : Type 0 where
+  pub growth : Growing
+  pub search : IsSearch rule depth t b budget growth l
+  pub none : growth.holes ≡ []

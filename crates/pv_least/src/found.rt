@@ -38,8 +38,6 @@ pub struct Least {
 #[derive(Drop)]
 pub(crate) struct Room {
     pub(crate) scratch: Scratch,
-    /// The box of the leaf that comes next.
-    pub(crate) leaf: IBox,
     /// The box of a point that is tried.
     pub(crate) probe: IBox,
 }
@@ -74,7 +72,6 @@ fn try_point(
     requires dims { length to.now ≡ objective.now.dims }
     requires probe { length room.old.probe ≡ length to.now }
     ensures best { OnOk result (best.new ≡ tried_at (aim_of objective.now) to.now which best.old) }
-    ensures leaf { room.new.leaf ≡ room.old.leaf }
     ensures probe { length room.new.probe ≡ length room.old.probe }
 {
     let _places = to.dims();
@@ -100,7 +97,6 @@ fn try_points(
     requires dims { length to.now ≡ objective.now.dims }
     requires probe { length room.old.probe ≡ length to.now }
     ensures best { OnOk result (best.new ≡ tried (aim_of objective.now) to.now best.old) }
-    ensures leaf { room.new.leaf ≡ room.old.leaf }
     ensures probe { length room.new.probe ≡ length room.old.probe }
 {
     try_point(alloc, objective, Candidate::Low, to, room, best)?;
@@ -153,7 +149,6 @@ impl Least {
         requires probe { length room.old.probe ≡ objective.now.dims }
         ensures found { OnOk result
             (self.new ≡ settled_by (aim_of objective.now) self.old outcome.now) }
-        ensures leaf { room.new.leaf ≡ room.old.leaf }
         ensures probe { length room.new.probe ≡ length room.old.probe }
     {
         match outcome {
@@ -176,7 +171,6 @@ impl Least {
         ensures best { self.new.best ≡ self.old.best }
         ensures settled { self.new.settled ≡ self.old.settled }
         ensures done { self.new.done ≡ self.old.done }
-        ensures leaf { room.new.leaf ≡ room.old.leaf }
         ensures probe { room.new.probe ≡ room.old.probe }
     {
         let low = objective.low(&mut room.scratch, to)?;

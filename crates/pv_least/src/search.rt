@@ -1,10 +1,11 @@
 //! The search for the least value.
-ghost use Rattle.std.specs.Prelude.{◌≡◌, ◌↔◌, ◌-◌, ◌<◌, ◌≤◌, IsTrue, length, IfOk, IfErr, IfSome, OnOk, None};
+ghost use Rattle.std.specs.Prelude.{◌≡◌, ◌↔◌, ◌<◌, ◌≤◌, IsTrue, [], length, reverse, IfOk, IfErr, IfSome, OnOk, None};
 ghost use Rattle.pv_tree.specs.Trees.{counts_of, settled_of};
-ghost use Rattle.pv_tree.specs.Holes.{Takes, IsNext, settle_next};
+ghost use Rattle.pv_tree.specs.Holes.{IsNext, growth_over};
+ghost use Rattle.pv_tree.specs.KnownLeaves.{AreKnown};
 ghost use Rattle.pv_least.specs.Objectives.{aim_of, admits};
 ghost use Rattle.pv_least.specs.Searches.{searched, lower_of, best_of, next_of};
-ghost use Rattle.pv_least.specs.Running.{IsSearch, steps_left};
+ghost use Rattle.pv_least.specs.Running.{IsEnded, IsSearch, nothing_found, steps_left};
 ghost use Rattle.pv_least.specs.Promises.{NoneIsBelow, IsWitness};
 ghost use Rattle.pv_tree.specs.declared.limit.TheConstants.{MOST_SETTLED};
 
@@ -13,13 +14,14 @@ use crate::objective::Objective;
 use pv_box::IBox;
 use pv_hc4::Scratch;
 use pv_num::{Memory, Num};
-use pv_tree::{Growth, Outcome, Path, Settler};
+use pv_tree::{Forgetful, Grower, KnowingSettler, Path, Settler, Workspace};
 use std::alloc::Global;
 
 // A search so far.
 #[derive(Drop)]
-struct Search {
-    growth: Growth,
+struct Search<S: KnowingSettler> {
+    grower: Grower,
+    workspace: Workspace<S>,
     room: Room,
     found: Least,
 }
@@ -56,24 +58,59 @@ pub fn least<S: Settler>(
 {
     objective.learn();
     let _places = root.dims();
-    let mut search = Search {
-        growth: Growth::open(alloc, root.clone_of(alloc)?)?,
-        room: Room {
-            scratch: Scratch::new(alloc),
-            leaf: root.clone_of(alloc)?,
-            probe: root.clone_of(alloc)?,
-        },
-        found: Least::nothing(),
-    };
-    while let Some(path) = search.growth.next_leaf() {
+    let found = run(alloc, &Forgetful { settler }, objective, root, budget)?;
+    Ok(found)
+}
+
+// Searches a box to the end.
+fn run<S: KnowingSettler>(
+    alloc: Global,
+    settler: &S,
+    objective: &Objective,
+    root: &IBox,
+    budget: u64,
+) -> Result<Least, Memory>
+    requires settler_dims { length root.now ≡ S.dims settler.now }
+    requires objective_dims { length root.now ≡ objective.now.dims }
+    requires budget { budget ≤ MOST_SETTLED }
+    ensures { IfOk result (IsEnded (S.settle_of settler.now) (S.depth_of settler.now)
+        (aim_of objective.now) root.now budget) }
+{
+    let mut search = Search::open(alloc, settler, root)?;
+    while let Some(path) = search.grower.next() {
         search.visit(alloc, settler, objective, budget, path)?;
     }
     Ok(search.found)
 }
 
-impl Search {
+impl<S: KnowingSettler> Search<S> {
+    // A search of a box of which nothing is known.
+    fn open(alloc: Global, settler: &S, root: &IBox) -> Result<Search<S>, Memory>
+        requires dims { length root.now ≡ S.dims settler.now }
+        ensures growth { IfOk result (λ s. s.grower.growth ≡ growth_over root.now) }
+        ensures at { IfOk result (λ s. s.grower.at ≡ []) }
+        ensures found { IfOk result (λ s. s.found ≡ nothing_found) }
+        ensures scratch { IfOk result (λ s. length s.workspace.scratch ≡ length root.now) }
+        ensures facts { IfOk result (λ s. AreKnown (S.knows settler.now)
+            (reverse s.workspace.facts.items) s.grower.growth.holes) }
+        ensures probe { IfOk result (λ s. length s.room.probe ≡ length root.now) }
+    {
+        let mut workspace = Workspace::of(alloc, settler, root.dims())?;
+        workspace.scratch.copy_from(root);
+        let known = settler.nothing();
+        Ok(Search {
+            grower: Grower::open(alloc, settler, Path::root(), known, &mut workspace)?,
+            workspace,
+            room: Room {
+                scratch: Scratch::new(alloc),
+                probe: root.clone_of(alloc)?,
+            },
+            found: Least::nothing(),
+        })
+    }
+
     // Settles the leaf that comes next or passes it.
-    fn visit<S: Settler>(
+    fn visit(
         &mut self,
         alloc: Global,
         settler: &S,
@@ -81,34 +118,44 @@ impl Search {
         budget: u64,
         path: Path,
     ) -> Result<(), Memory>
-        requires next { IsNext self.old.growth path }
-        requires settler_dims { length self.old.growth.root ≡ S.dims settler.now }
-        requires objective_dims { length self.old.growth.root ≡ objective.now.dims }
-        requires leaf { length self.old.room.leaf ≡ objective.now.dims }
+        requires next { IsNext self.old.grower.growth path }
+        requires at { self.old.grower.at ≡ [] }
+        requires settler_dims { length self.old.grower.growth.root ≡ S.dims settler.now }
+        requires objective_dims { length self.old.grower.growth.root ≡ objective.now.dims }
+        requires scratch { length self.old.workspace.scratch ≡ objective.now.dims }
+        requires facts { AreKnown (S.knows settler.now)
+            (reverse self.old.workspace.facts.items) self.old.grower.growth.holes }
         requires probe { length self.old.room.probe ≡ objective.now.dims }
         requires budget { budget ≤ MOST_SETTLED }
         requires search { IsSearch (S.settle_of settler.now) (S.depth_of settler.now)
-            (aim_of objective.now) self.old.growth.root budget self.old.growth self.old.found }
-        ensures search { OnOk result (IsSearch (S.settle_of settler.now) (S.depth_of settler.now)
-            (aim_of objective.now) self.old.growth.root budget self.new.growth self.new.found) }
-        ensures fewer { OnOk result (steps_left budget self.new.growth self.new.found
-            < steps_left budget self.old.growth self.old.found) }
-        ensures leaf { length self.new.room.leaf ≡ length self.old.room.leaf }
+            (aim_of objective.now) self.old.grower.growth.root budget
+            self.old.grower.growth self.old.found }
+        ensures at { self.new.grower.at ≡ self.old.grower.at }
+        ensures search { OnOk result (IsSearch (S.settle_of settler.now)
+            (S.depth_of settler.now) (aim_of objective.now) self.old.grower.growth.root budget
+            self.new.grower.growth self.new.found) }
+        ensures fewer { OnOk result (steps_left budget self.new.grower.growth self.new.found
+            < steps_left budget self.old.grower.growth self.old.found) }
+        ensures scratch { length self.new.workspace.scratch ≡ length self.old.workspace.scratch }
+        ensures facts { OnOk result (AreKnown (S.knows settler.now)
+            (reverse self.new.workspace.facts.items) self.new.grower.growth.holes) }
         ensures probe { length self.new.room.probe ≡ length self.old.room.probe }
     {
-        let _places = self.growth.dims();
-        self.growth.write_box(&mut self.room.leaf);
-        let low = objective.low(&mut self.room.scratch, &self.room.leaf)?;
+        let _places = self.grower.growth.dims();
+        self.grower.look(&mut self.workspace);
+        let low = objective.low(&mut self.room.scratch, &self.workspace.scratch)?;
         let is_next = is_admitted(&low, self.found.upper());
         if is_next && self.found.settled < budget {
-            let outcome = settle_leaf(alloc, settler, &self.room.leaf, path)?;
+            let settled = self
+                .grower
+                .settle(alloc, settler, &mut self.workspace, path)?;
             self.found
-                .settle(alloc, objective, &outcome, &mut self.room)?;
-            put(&mut self.growth, outcome)?;
+                .settle(alloc, objective, &settled.outcome, &mut self.room)?;
+            self.grower.lay(settler, &mut self.workspace, settled)?;
             return Ok(());
         }
         self.found.pass(low, is_next);
-        self.growth.pass();
+        self.grower.pass(settler, &mut self.workspace);
         Ok(())
     }
 }
@@ -120,32 +167,5 @@ fn is_admitted(low: &Option<Num>, upper: Num) -> bool
     match low {
         Some(low) => *low <= upper,
         None => false,
-    }
-}
-
-// Settles a leaf's box, with the cuts that its depth leaves.
-fn settle_leaf<S: Settler>(
-    alloc: Global,
-    settler: &S,
-    bx: &IBox,
-    path: Path,
-) -> Result<Outcome, Memory>
-    requires { length bx.now ≡ S.dims settler.now }
-    ensures { IfOk result (λ o. o ≡ S.settle_of settler.now bx.now
-        (S.depth_of settler.now - length path) (length path)) }
-{
-    let steps = path.len();
-    let cuts_left = settler.depth().saturating_sub(steps);
-    settler.settle(alloc, bx, cuts_left, steps)
-}
-
-// Settles the leaf that comes next so.
-fn put(growth: &mut Growth, outcome: Outcome) -> Result<(), Memory>
-    requires { Takes growth.old.holes outcome }
-    ensures { OnOk result (growth.new ≡ settle_next growth.old outcome) }
-{
-    match growth.settle(outcome) {
-        Ok(()) => Ok(()),
-        Err(_) => Err(Memory),
     }
 }

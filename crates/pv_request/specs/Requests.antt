@@ -19,7 +19,7 @@ use Rattle.pv_scope.specs.declared.share.Share.{Share}
 use Rattle.pv_tree.specs.declared.path.TheConstants.{MOST_STEPS}
 use Rattle.pv_tree.specs.declared.limit.TheConstants.{LEAST_LIMIT, MOST_SETTLED, MOST_WORKERS}
 use Rattle.pv_scope.specs.declared.share.TheConstants.{MOST_SHARES}
-use Rattle.pv_request.specs.declared.request.TheConstants.{MOST_CIRCLES, MOST_SEED, MOST_ROUNDS}
+use Rattle.pv_request.specs.declared.request.TheConstants.{MOST_CIRCLES, MOST_SEED, MOST_ROUNDS, MOST_PAVINGS}
 use Rattle.pv_request.specs.declared.request.Settings.{Settings}
 use Rattle.pv_request.specs.declared.request.Effort.{Effort}
 use Rattle.pv_request.specs.declared.request.Workers.{Workers}
@@ -134,8 +134,16 @@ limit_value rows = digits_value 10 (limit_text rows)
 abbrev pub workers_text : List Row → Text
 workers_text = value_of (codes "workers") (codes "4")
 
-abbrev pub boxes_text : List Row → Text
-boxes_text = value_of (codes "boxes") (codes "20000")
+-- the budget of a command that has one by itself
+abbrev pub usual_boxes : Text
+usual_boxes = codes "20000"
+
+-- the limit that is given is the budget of a command that begins anew
+abbrev pub limit_or_usual : List Row → Text
+limit_or_usual = value_of (codes "limit") usual_boxes
+
+abbrev pub boxes_text : Text → List Row → Text
+boxes_text usual = value_of (codes "boxes") usual
 
 abbrev pub order_text : List Row → Text
 order_text = value_of (codes "order") (codes "depth")
@@ -156,11 +164,11 @@ IsNodeLimit rows n = IsCount LEAST_LIMIT MOST_SETTLED (limit_text rows) n
 abbrev pub AreWorkers : List Row → Workers → Type 0
 AreWorkers rows w = IsCount 1 MOST_WORKERS (workers_text rows) w.count
 
--- the threads, the budget, the limit and the order that the options give
-pub record IsEffort (rows : List Row) (e : Effort) : Type 0 where
+-- the threads, the budget, the limit and the order that the options give of a command with this budget by itself
+pub record IsEffort (usual : Text) (rows : List Row) (e : Effort) : Type 0 where
   pub limit : IsNodeLimit rows e.budget.limit
   pub workers : IsCount 1 MOST_WORKERS (workers_text rows) e.budget.workers
-  pub boxes : IsCount 1 e.budget.limit (boxes_text rows) e.budget.nodes
+  pub boxes : IsCount 1 e.budget.limit (boxes_text usual rows) e.budget.nodes
   pub order : order_text rows ≡ order_name e.order
 
 -- The share that the text of `--share` gives, and none where it isn't given. A share has an order of its own, so another one
@@ -193,7 +201,7 @@ names_in = map (λ name. name.now)
 -- up to eight paving files
 pub record ArePavings (rows : List Row) (names : List (Bor Text)) : Type 0 where
   pub are : names_in names ≡ paving_names rows
-  pub few : length names ≤ 8
+  pub few : length names ≤ MOST_PAVINGS
 
 -- a name of the standard output
 abbrev pub IsOutput : Text → Type 0
@@ -248,7 +256,7 @@ pub record AreCircles (rows : List Row) (c : Circles) : Type 0 where
 pub record IsSearch (rows : List Row) (s : Search) : Type 0 where
   pub of : s.of.now ≡ value_of (codes "of") [] rows
   pub limit : IsNodeLimit rows s.limit
-  pub boxes : IsCount 1 s.limit (boxes_text rows) s.boxes
+  pub boxes : IsCount 1 s.limit (boxes_text (limit_or_usual rows) rows) s.boxes
 
 abbrev pub rounds_text : List Row → Text
 rounds_text = value_of (codes "rounds") (codes "1")
@@ -278,19 +286,19 @@ abbrev pub HasBadWorkers : List Row → Type 0
 HasBadWorkers rows = (n : ℕ) → IsCount 1 MOST_WORKERS (workers_text rows) n → ⊥
 
 -- so is the budget, which the limit bounds
-abbrev pub HasBadBoxes : List Row → Type 0
-HasBadBoxes rows = (n : ℕ) → IsCount 1 (limit_value rows) (boxes_text rows) n → ⊥
+abbrev pub HasBadBoxes : Text → List Row → Type 0
+HasBadBoxes usual rows = (n : ℕ) → IsCount 1 (limit_value rows) (boxes_text usual rows) n → ⊥
 
 -- so is the limit, the number of threads, the budget, or the order
-pub data HasBadEffort (rows : List Row) : Type 0 where
-  bad_limit : HasBadLimit rows → HasBadEffort rows
-  bad_workers : HasBadWorkers rows → HasBadEffort rows
-  bad_boxes : HasBadBoxes rows → HasBadEffort rows
-  bad_order : ((o : Order) → order_text rows ≡ order_name o → ⊥) → HasBadEffort rows
+pub data HasBadEffort (usual : Text) (rows : List Row) : Type 0 where
+  bad_limit : HasBadLimit rows → HasBadEffort usual rows
+  bad_workers : HasBadWorkers rows → HasBadEffort usual rows
+  bad_boxes : HasBadBoxes usual rows → HasBadEffort usual rows
+  bad_order : ((o : Order) → order_text rows ≡ order_name o → ⊥) → HasBadEffort usual rows
 
 -- so is the limit or the budget of a search
 abbrev pub HasBadBudget : List Row → Type 0
-HasBadBudget rows = HasBadLimit rows ⊎ HasBadBoxes rows
+HasBadBudget rows = HasBadLimit rows ⊎ HasBadBoxes (limit_or_usual rows) rows
 
 -- so is the number of rounds
 abbrev pub HasBadRounds : List Row → Type 0
@@ -303,7 +311,7 @@ pub data HasBadCircles (rows : List Row) : Type 0 where
 
 -- there are more than eight paving files
 abbrev pub HasManyPavings : List Row → Type 0
-HasManyPavings rows = 8 < length (paving_names rows)
+HasManyPavings rows = MOST_PAVINGS < length (paving_names rows)
 
 -- ---- The commands
 
@@ -340,14 +348,14 @@ name_of keeps = codes "campaign"
 -- a value is refused that the command takes
 abbrev pub HasBadValueFor : Command → List Row → Type 0
 HasBadValueFor checks rows = ⊥
-HasBadValueFor (runs usual) rows = HasBadOut rows ⊎ (HasBadSetting usual rows ⊎ HasBadEffort rows)
-HasBadValueFor resumes rows = HasBadOut rows ⊎ (HasManyPavings rows ⊎ (HasBadSetting Plain rows ⊎ (HasBadEffort rows ⊎ HasBadShare rows)))
+HasBadValueFor (runs usual) rows = HasBadOut rows ⊎ (HasBadSetting usual rows ⊎ HasBadEffort (limit_or_usual rows) rows)
+HasBadValueFor resumes rows = HasBadOut rows ⊎ (HasManyPavings rows ⊎ (HasBadSetting Plain rows ⊎ (HasBadEffort usual_boxes rows ⊎ HasBadShare rows)))
 HasBadValueFor merges rows = HasBadOut rows ⊎ (HasManyPavings rows ⊎ (HasBadSetting Plain rows ⊎ HasBadLimit rows))
 HasBadValueFor (audits usual) rows = HasBadSetting usual rows ⊎ (HasBadLimit rows ⊎ HasBadWorkers rows)
 HasBadValueFor draws rows = HasBadLevels rows ⊎ (HasBadSetting Plain rows ⊎ HasBadLimit rows)
 HasBadValueFor samples rows = HasBadCircles rows
 HasBadValueFor seeks rows = HasBadSetting Plain rows ⊎ HasBadBudget rows
-HasBadValueFor keeps rows = HasBadSetting Plain rows ⊎ (HasBadEffort rows ⊎ HasBadRounds rows)
+HasBadValueFor keeps rows = HasBadSetting Plain rows ⊎ (HasBadEffort usual_boxes rows ⊎ HasBadRounds rows)
 
 -- so it is for the command of this name
 pub record HasBadValue (name : Text) (rows : List Row) : Type 0 where
@@ -363,10 +371,11 @@ IsByForm names command rows s = (usual : Form) × ((command ≡ names usual) × 
 abbrev pub IsAskedBy : Text → List Row → Request → Type 0
 IsAskedBy command rows (Check system) = (command ≡ codes "check") × (system.now ≡ system_name rows)
 IsAskedBy command rows (Run system settings effort out) =
-    IsByForm run_name command rows settings × (system.now ≡ system_name rows) × IsEffort rows effort × IsOut rows out
+    IsByForm run_name command rows settings × (system.now ≡ system_name rows) × IsEffort (limit_or_usual rows) rows effort
+    × IsOut rows out
 IsAskedBy command rows (Resume system pavings settings effort share out) =
     (command ≡ codes "resume") × (system.now ≡ system_name rows) × ArePavings rows pavings.items × AreSettings Plain rows settings
-    × IsEffort rows effort × IsShareIn effort.order (first_of (codes "share") rows) share × IsOut rows out
+    × IsEffort usual_boxes rows effort × IsShareIn effort.order (first_of (codes "share") rows) share × IsOut rows out
 IsAskedBy command rows (Merge system pavings settings limit out) =
     (command ≡ codes "merge") × (system.now ≡ system_name rows) × ArePavings rows pavings.items × AreSettings Plain rows settings
     × IsNodeLimit rows limit × IsOut rows out
@@ -380,7 +389,8 @@ IsAskedBy command rows (Sample circles) = (command ≡ codes "sample") × AreCir
 IsAskedBy command rows (Least system settings search) =
     (command ≡ codes "least") × (system.now ≡ system_name rows) × AreSettings Plain rows settings × IsSearch rows search
 IsAskedBy command rows (Campaign system settings effort rounds) =
-    (command ≡ codes "campaign") × (system.now ≡ system_name rows) × AreSettings Plain rows settings × IsEffort rows effort × IsRounds rows rounds
+    (command ≡ codes "campaign") × (system.now ≡ system_name rows) × AreSettings Plain rows settings × IsEffort usual_boxes rows effort
+    × IsRounds rows rounds
 
 abbrev pub IsAsked : Option (Text × List Row) → Request → Type 0
 IsAsked None q = ⊥

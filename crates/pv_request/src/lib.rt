@@ -9,7 +9,7 @@ mod status;
 pub use decimal::push_decimal;
 pub use refusal::{FileFault, Refusal};
 pub use request::{
-    Circles, Effort, MOST_CIRCLES, MOST_ROUNDS, MOST_SEED, Request, Rounds, Search, Settings, View,
-    Workers,
+    Circles, Effort, MOST_CIRCLES, MOST_PAVINGS, MOST_ROUNDS, MOST_SEED, Request, Rounds, Search,
+    Settings, View, Workers,
 };
 pub use status::Status;

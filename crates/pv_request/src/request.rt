@@ -22,6 +22,9 @@ pub const MOST_SEED: u32 = 2_147_483_647;
 /// The most rounds of a campaign that a call asks for.
 pub const MOST_ROUNDS: u32 = 100;
 
+/// The most paving files of a command.
+pub const MOST_PAVINGS: usize = 8;
+
 /// How boxes are settled.
 #[derive(Clone, Copy)]
 pub struct Settings<'a> {

@@ -2,7 +2,6 @@ pub mod Replaced
 pub mod Lists
 pub mod Going
 pub mod Ahead
-pub mod Under
 pub mod Settled
 pub mod Whole
 pub mod Passes

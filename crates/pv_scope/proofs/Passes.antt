@@ -9,7 +9,8 @@ use Rattle.pv_tree.proofs.Stacks.{height_below}
 use Rattle.pv_board.specs.Rules.{settled_in}
 use Rattle.pv_scope.specs.Scopes.{IsIn, IsBelow, picked, is_in_scope}
 use Rattle.pv_scope.specs.declared.scope.Scope.TheVariants.{Above}
-use Rattle.pv_scope.specs.Settlings.{IsOver, IsEnded, IsSettled, IsPass, IsLevel, IsSpent}
+use Rattle.pv_scope.specs.Settlings.{IsOver, IsEnded, IsSettled, IsPass, IsLevel}
+use Rattle.pv_workers.specs.Pavings.{IsSpent}
 use Rattle.pv_scope.proofs.Lists.{open_in, in_open, picked_in, picked_all, none_open}
 use Rattle.pv_scope.proofs.Settled.{ended_few, ended_spent}
 

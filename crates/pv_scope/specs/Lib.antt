@@ -1,5 +1,4 @@
 pub mod Scopes
-pub mod Facts
 pub mod Parts
 pub mod Settlings
 pub mod Orders

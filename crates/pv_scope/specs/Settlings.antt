@@ -48,12 +48,6 @@ abbrev pub IsFullThere : Rule → ℕ → List Bounds → ℕ → ℕ → Tree �
 IsFullThere rule depth b k n opening t =
     (p : List Bool) → IsIn p (share_in k n opening) → subtree t p ≡ subtree (full_of rule depth b opening 0) p
 
--- The whole budget was spent, or no leaf is left open.
-abbrev pub IsSpent : ℕ → Tree → Tree → Type 0
-IsSpent budget opening t =
-    (settled_in t ≡ settled_in opening + budget)
-    ⊎ ((opens t ≡ []) × (settled_in t ≤ settled_in opening + budget))
-
 -- A run by levels ended in pass j: no path of an open leaf is shorter than 4 (j - 1), and each node that was settled has a path shorter than 4 j.
 pub record IsLevel (opening t : Tree) (pass : ℕ) : Type 0 where
   pub open_below : (q : List Bool) → subtree t q ≡ Some leaf → 4 * (pass - 1) ≤ length q

@@ -3,16 +3,15 @@ ghost use Rattle.std.specs.Prelude.{◌≡◌, ◌⊎◌, ◌+◌, ◌*◌, ◌�
 ghost use Rattle.pv_tree.specs.Trees.{Tree, Paves, opens};
 ghost use Rattle.pv_tree.specs.Stages.{IsStage};
 ghost use Rattle.pv_board.specs.Rules.{settled_in};
-ghost use Rattle.pv_workers.specs.Pavings.{IsPaved};
-ghost use Rattle.pv_scope.specs.Settlings.{IsLevel, IsPass, IsSpent};
+ghost use Rattle.pv_workers.specs.Pavings.{IsPaved, IsSpent};
+ghost use Rattle.pv_scope.specs.Settlings.{IsLevel, IsPass};
 
 use crate::part::Came;
 use crate::scope::Scope;
 use crate::settling::settle_scope;
-use crate::workspace::Workspace;
 use pv_num::Memory;
 use pv_pool::Gate;
-use pv_tree::{KnowingSettler, Paving, Settler};
+use pv_tree::{KnowingSettler, Paving, Settler, Workspace};
 use std::alloc::Global;
 
 /// Each pass goes so many levels further down than the one before it.
@@ -187,8 +186,5 @@ fn is_over(paving: &Paving, came: Came) -> bool
     if !came.done {
         return true;
     }
-    match paving.first_open() {
-        None => true,
-        Some(_path) => false,
-    }
+    paving.is_closed()
 }

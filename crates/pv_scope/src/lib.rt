@@ -9,7 +9,6 @@ mod part;
 mod scope;
 mod settling;
 mod share;
-mod workspace;
 
 pub use levels::{Levelled, settle_levels};
 pub use order::{Order, pave_in_order};

@@ -1,18 +1,15 @@
 //! What is settled below one open leaf.
-ghost use Rattle.std.specs.Prelude.{◌≡◌, ◌+◌, ◌-◌, ◌<◌, None, length, reverse, IfOk, IfSome, OnOk};
+ghost use Rattle.std.specs.Prelude.{◌≡◌, ◌+◌, ◌<◌, ◌≤◌, None, false, length, reverse, IfOk, IfSome, IsTrue, OnOk};
 ghost use Rattle.pv_tree.specs.Trees.{Tree, Paves, leaf, subtree};
 ghost use Rattle.pv_tree.specs.Stages.{IsStage};
 ghost use Rattle.pv_tree.specs.Holes.{IsNext};
-ghost use Rattle.pv_tree.specs.KnownHalves.{HoldsOfHalves};
 ghost use Rattle.pv_tree.specs.KnownLeaves.{AreKnown};
 ghost use Rattle.pv_board.specs.Rules.{IsStageBelow, settled_in};
-ghost use Rattle.pv_scope.specs.Facts.{with_handed};
 ghost use Rattle.pv_scope.specs.Parts.{AreToCome, AreLong, AreShort, IsGrown, IsGrownAt};
 
-use crate::workspace::Workspace;
 use pv_num::Memory;
 use pv_pool::Gate;
-use pv_tree::{Growth, KnowingSettler, Outcome, Path, Paving, Settled};
+use pv_tree::{Grower, KnowingSettler, Path, Paving, Workspace};
 use std::alloc::Global;
 
 /// How far a call came.
@@ -68,12 +65,12 @@ pub(crate) fn settle_at<S: KnowingSettler, G: Gate>(
     ensures grown { IfOk result (λ came.
         IsGrownAt paving.old.tree paving.new.tree reach.at reach.steps most came.settled came.done) }
 {
-    let Reach { at, steps } = reach;
+    let at = reach.at;
     let _places = paving.dims();
     paving.box_at(at, &mut workspace.scratch);
     let _sides = workspace.scratch.dims();
     let _steps = at.len();
-    let part = grow_at(alloc, settler, gate, at, steps, most, workspace)?;
+    let part = grow_at(alloc, settler, gate, &reach, most, workspace)?;
     paving.reserve(part.came.settled)?;
     paving.graft(at, &part.stage);
     Ok(part.came)
@@ -84,86 +81,114 @@ fn grow_at<S: KnowingSettler, G: Gate>(
     alloc: Global,
     settler: &S,
     gate: &G,
-    at: Path,
-    steps: u32,
+    reach: &Reach,
     most: u64,
     workspace: &mut Workspace<S>,
 ) -> Result<Part, Memory>
     requires scratch { length workspace.old.scratch ≡ S.dims settler.now }
     ensures root { IfOk result (λ p. p.stage.root ≡ workspace.old.scratch) }
     ensures stage { IfOk result (λ p. IsStageBelow (S.settle_of settler.now)
-        (S.depth_of settler.now) workspace.old.scratch (length at) p.stage.tree) }
+        (S.depth_of settler.now) workspace.old.scratch (length reach.now.at) p.stage.tree) }
     ensures count { IfOk result (λ p. settled_in p.stage.tree ≡ p.came.settled) }
-    ensures short { IfOk result (λ p. AreShort steps (length at) p.stage.tree) }
+    ensures short { IfOk result (λ p. AreShort reach.now.steps (length reach.now.at) p.stage.tree) }
     ensures grown { IfOk result (λ p.
-        IsGrown steps (length at) most p.came.settled p.came.done p.stage.tree) }
+        IsGrown reach.now.steps (length reach.now.at) most p.came.settled p.came.done p.stage.tree) }
     ensures scratch { length workspace.new.scratch ≡ S.dims settler.now }
 {
-    let mut growth = Growth::open(alloc, workspace.scratch.clone_of(alloc)?)?;
-    let _places = growth.dims();
-    workspace.facts.clear();
-    workspace.facts.push(settler.nothing())?;
+    let mut grower = Grower::open(alloc, settler, reach.at, settler.nothing(), workspace)?;
+    let _places = grower.growth.dims();
+    let came = grow_on(alloc, settler, gate, reach, most, &mut grower, workspace)?;
+    Ok(Part {
+        stage: grower.finish(),
+        came,
+    })
+}
+
+// Settles leaves of a stage of which none is settled yet.
+fn grow_on<S: KnowingSettler, G: Gate>(
+    alloc: Global,
+    settler: &S,
+    gate: &G,
+    reach: &Reach,
+    most: u64,
+    grower: &mut Grower,
+    workspace: &mut Workspace<S>,
+) -> Result<Came, Memory>
+    requires at { grower.old.at ≡ reach.now.at }
+    requires dims { length grower.old.growth.root ≡ S.dims settler.now }
+    requires stage { IsStageBelow (S.settle_of settler.now)
+        (S.depth_of settler.now) grower.old.growth.root (length reach.now.at)
+        grower.old.growth.tree }
+    requires none { settled_in grower.old.growth.tree ≡ 0 }
+    requires to_come { AreToCome reach.now.steps (length reach.now.at) grower.old.growth }
+    requires short { AreShort reach.now.steps (length reach.now.at) grower.old.growth.tree }
+    requires facts { AreKnown (S.knows settler.now)
+        (reverse workspace.old.facts.items) grower.old.growth.holes }
+    requires scratch { length workspace.old.scratch ≡ S.dims settler.now }
+    ensures root { grower.new.growth.root ≡ grower.old.growth.root }
+    ensures stage { OnOk result (IsStageBelow (S.settle_of settler.now)
+        (S.depth_of settler.now) grower.new.growth.root (length reach.now.at)
+        grower.new.growth.tree) }
+    ensures count { IfOk result (λ came. settled_in grower.new.growth.tree ≡ came.settled) }
+    ensures short { OnOk result (AreShort reach.now.steps (length reach.now.at) grower.new.growth.tree) }
+    ensures grown { IfOk result (λ came.
+        IsGrown reach.now.steps (length reach.now.at) most came.settled came.done
+        grower.new.growth.tree) }
+    ensures scratch { length workspace.new.scratch ≡ S.dims settler.now }
+{
+    let _places = grower.growth.dims();
     for settled in 0..most {
-        let Some(path) = next_short(settler, &mut growth, at, steps, workspace) else {
-            return Ok(Part {
-                stage: growth.finish(),
-                came: Came {
-                    settled,
-                    done: true,
-                },
+        let Some(path) = next_short(settler, grower, reach, workspace) else {
+            return Ok(Came {
+                settled,
+                done: true,
             });
         };
-        settle_next(
-            alloc,
-            settler,
-            gate,
-            Reach { at, steps },
-            path,
-            &mut growth,
-            workspace,
-        )?;
+        settle_next(alloc, settler, gate, reach, path, grower, workspace)?;
     }
-    let done = next_short(settler, &mut growth, at, steps, workspace).is_none();
-    Ok(Part {
-        stage: growth.finish(),
-        came: Came {
-            settled: most,
-            done,
-        },
+    let done = next_short(settler, grower, reach, workspace).is_none();
+    Ok(Came {
+        settled: most,
+        done,
     })
 }
 
 // The path of the next leaf that is to be settled. The leaves before it stay open.
 fn next_short<S: KnowingSettler>(
     _settler: &S,
-    growth: &mut Growth,
-    at: Path,
-    steps: u32,
+    grower: &mut Grower,
+    reach: &Reach,
     workspace: &mut Workspace<S>,
 ) -> Option<Path>
-    requires to_come { AreToCome steps (length at) growth.old }
+    requires to_come { AreToCome reach.now.steps (length reach.now.at) grower.old.growth }
     requires facts { AreKnown (S.knows _settler.now)
-        (reverse workspace.old.facts.items) growth.old.holes }
-    ensures root { growth.new.root ≡ growth.old.root }
-    ensures tree { growth.new.tree ≡ growth.old.tree }
-    ensures next { IfSome result (λ p. IsNext growth.new p) }
-    ensures short { IfSome result (λ p. length at + length p < steps) }
-    ensures none { result ≡ None → AreLong steps (length at) growth.new.tree }
-    ensures to_come { AreToCome steps (length at) growth.new }
+        (reverse workspace.old.facts.items) grower.old.growth.holes }
+    ensures root { grower.new.growth.root ≡ grower.old.growth.root }
+    ensures tree { grower.new.growth.tree ≡ grower.old.growth.tree }
+    ensures at { grower.new.at ≡ grower.old.at }
+    ensures next { IfSome result (λ p. IsNext grower.new.growth p) }
+    ensures short { IfSome result (λ p. length reach.now.at + length p < reach.now.steps) }
+    ensures none { result ≡ None → AreLong reach.now.steps (length reach.now.at) grower.new.growth.tree }
+    ensures to_come { AreToCome reach.now.steps (length reach.now.at) grower.new.growth }
     ensures facts { AreKnown (S.knows _settler.now)
-        (reverse workspace.new.facts.items) growth.new.holes }
+        (reverse workspace.new.facts.items) grower.new.growth.holes }
     ensures scratch { workspace.new.scratch ≡ workspace.old.scratch }
 {
-    while let Some(path) = growth.next_leaf() {
-        if at.len() + path.len() < steps {
+    while let Some(path) = grower.next() {
+        if is_short(reach, path) {
             return Some(path);
         }
-        growth.pass();
-        let Some(_known) = workspace.facts.pop() else {
-            unreachable!()
-        };
+        grower.pass(_settler, workspace);
     }
     None
+}
+
+// Whether a leaf below another one is to be settled.
+fn is_short(reach: &Reach, path: Path) -> bool
+    ensures short { IsTrue result → length reach.now.at + length path < reach.now.steps }
+    ensures long { result ≡ false → reach.now.steps ≤ length reach.now.at + length path }
+{
+    reach.at.len() + path.len() < reach.steps
 }
 
 // Settles the next leaf of a stage, with the cuts that its whole path leaves.
@@ -171,89 +196,39 @@ fn settle_next<S: KnowingSettler, G: Gate>(
     alloc: Global,
     settler: &S,
     gate: &G,
-    reach: Reach,
+    reach: &Reach,
     path: Path,
-    growth: &mut Growth,
+    grower: &mut Grower,
     workspace: &mut Workspace<S>,
 ) -> Result<(), Memory>
-    requires next { IsNext growth.old path }
-    requires few { length reach.at + length path < reach.steps }
-    requires dims { length growth.old.root ≡ S.dims settler.now }
+    requires next { IsNext grower.old.growth path }
+    requires few { length reach.now.at + length path < reach.now.steps }
+    requires dims { length grower.old.growth.root ≡ S.dims settler.now }
     requires stage { IsStageBelow (S.settle_of settler.now)
-        (S.depth_of settler.now) growth.old.root (length reach.at) growth.old.tree }
+        (S.depth_of settler.now) grower.old.growth.root (length reach.now.at)
+        grower.old.growth.tree }
     requires facts { AreKnown (S.knows settler.now)
-        (reverse workspace.old.facts.items) growth.old.holes }
-    requires to_come { AreToCome reach.steps (length reach.at) growth.old }
-    requires short { AreShort reach.steps (length reach.at) growth.old.tree }
+        (reverse workspace.old.facts.items) grower.old.growth.holes }
+    requires to_come { AreToCome reach.now.steps (length reach.now.at) grower.old.growth }
+    requires short { AreShort reach.now.steps (length reach.now.at) grower.old.growth.tree }
     requires scratch { length workspace.old.scratch ≡ S.dims settler.now }
-    ensures root { growth.new.root ≡ growth.old.root }
+    requires at { grower.old.at ≡ reach.now.at }
+    ensures at { grower.new.at ≡ grower.old.at }
+    ensures root { grower.new.growth.root ≡ grower.old.growth.root }
     ensures stage { OnOk result (IsStageBelow (S.settle_of settler.now)
-        (S.depth_of settler.now) growth.new.root (length reach.at) growth.new.tree) }
-    ensures more { OnOk result (settled_in growth.new.tree ≡ settled_in growth.old.tree + 1) }
+        (S.depth_of settler.now) grower.new.growth.root (length reach.now.at)
+        grower.new.growth.tree) }
+    ensures more { OnOk result
+        (settled_in grower.new.growth.tree ≡ settled_in grower.old.growth.tree + 1) }
     ensures facts { OnOk result (AreKnown (S.knows settler.now)
-        (reverse workspace.new.facts.items) growth.new.holes) }
-    ensures to_come { OnOk result (AreToCome reach.steps (length reach.at) growth.new) }
-    ensures short { OnOk result (AreShort reach.steps (length reach.at) growth.new.tree) }
+        (reverse workspace.new.facts.items) grower.new.growth.holes) }
+    ensures to_come { OnOk result (AreToCome reach.now.steps (length reach.now.at) grower.new.growth) }
+    ensures short { OnOk result (AreShort reach.now.steps (length reach.now.at) grower.new.growth.tree) }
     ensures scratch { length workspace.new.scratch ≡ S.dims settler.now }
 {
-    let _places = growth.dims();
+    let _places = grower.growth.dims();
     let _steps = reach.at.len();
-    let whole = reach.at.then(path);
-    gate.enter(0, whole);
-    growth.write_box(&mut workspace.scratch);
-    let Some(known) = workspace.facts.pop() else {
-        unreachable!()
-    };
-    let Settled {
-        outcome,
-        known: below,
-    } = settle_box(alloc, settler, whole, known, workspace)?;
-    hand_on(&mut workspace.facts, &outcome, below)?;
-    match growth.settle(outcome) {
-        Ok(()) => {}
-        Err(_) => return Err(Memory),
-    }
+    gate.enter(0, reach.at.then(path));
+    grower.step(alloc, settler, workspace, path)?;
     Ok(())
-}
-
-// Settles the box in `workspace.scratch`, which is that of a path, and of which something is known.
-fn settle_box<S: KnowingSettler>(
-    alloc: Global,
-    settler: &S,
-    path: Path,
-    known: S::Known,
-    workspace: &mut Workspace<S>,
-) -> Result<Settled<S::Known>, Memory>
-    requires scratch { length workspace.old.scratch ≡ S.dims settler.now }
-    requires known { S.knows settler.now known workspace.old.scratch }
-    ensures outcome { IfOk result (λ s. s.outcome ≡ S.settle_of settler.now workspace.old.scratch
-        (S.depth_of settler.now - length path) (length path)) }
-    ensures known { IfOk result (λ s. HoldsOfHalves (S.knows settler.now s.known) s.outcome) }
-    ensures scratch { workspace.new.scratch ≡ workspace.old.scratch }
-    ensures facts { workspace.new.facts.items ≡ workspace.old.facts.items }
-{
-    let steps = path.len();
-    let cuts_left = settler.depth().saturating_sub(steps);
-    settler.settle_knowing(
-        alloc,
-        &mut workspace.room,
-        &workspace.scratch,
-        known,
-        cuts_left,
-        steps,
-    )
-}
-
-// Hands what is known to the halves of a cut.
-fn hand_on<K: Copy + Drop>(facts: &mut Vec<K>, outcome: &Outcome, known: K) -> Result<(), Memory>
-    ensures { OnOk result (facts.new.items ≡ with_handed facts.old.items outcome.now known) }
-{
-    match outcome {
-        Outcome::Cut { .. } => {
-            facts.push(known)?;
-            facts.push(known)?;
-            Ok(())
-        }
-        Outcome::Removed | Outcome::Inner { .. } | Outcome::Small { .. } => Ok(()),
-    }
 }

@@ -8,10 +8,9 @@ ghost use Rattle.pv_scope.specs.Settlings.{IsEnded, IsSettled};
 use crate::leaves::leaves_in;
 use crate::part::{Came, Reach, settle_at};
 use crate::scope::Scope;
-use crate::workspace::Workspace;
 use pv_num::Memory;
 use pv_pool::Gate;
-use pv_tree::{KnowingSettler, Paving};
+use pv_tree::{KnowingSettler, Paving, Workspace};
 use std::alloc::Global;
 
 /// Settles the open leaves of a scope one after the other in preorder, each with what is below it,

@@ -8,10 +8,9 @@ ghost use Rattle.pv_scope.specs.declared.share.TheConstants.{MOST_SHARES};
 
 use crate::scope::Scope;
 use crate::settling::settle_scope;
-use crate::workspace::Workspace;
 use pv_num::Memory;
 use pv_pool::Gate;
-use pv_tree::{KnowingSettler, Paving};
+use pv_tree::{KnowingSettler, Paving, Workspace};
 use std::alloc::Global;
 
 /// The most shares of an opening.

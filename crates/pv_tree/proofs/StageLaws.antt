@@ -8,7 +8,7 @@ use Rattle.pv_interval.specs.Bounds.{Bounds, IsInterval, between}
 use Rattle.pv_interval.specs.Points.{Point}
 use Rattle.pv_box.specs.Boxes.{IsBox, lower_half, upper_half}
 use Rattle.pv_tree.specs.Trees.{Tree, leaf, removed, inner, small, cut, top, subtree, outcome_at, graft, box_of, opens, settled, Paves, Fits, KeepsBox, CutsAbove, HasDepth, IsStrictlyInside, IsBetween}
-use Rattle.pv_tree.specs.Stages.{Rule, full, full_of, Grows, IsStage}
+use Rattle.pv_tree.specs.Stages.{Rule, full, full_of, Grows, IsStage, IsStageFrom}
 use Rattle.pv_tree.specs.Sets.{IsSound, IsSoundOutcome}
 use Rattle.pv_tree.specs.Laws.{IsLawful}
 use Rattle.pv_tree.specs.declared.outcome.Outcome.{Outcome}
@@ -384,13 +384,20 @@ module _ (rule : Rule) (depth dims : ℕ) (inside : Point → Type 0) (laws : Is
   rule_at (s ∷ p) opening (small to) b k n h e q g f l m = cc
 
   -- a step at an open leaf leads from stage to stage
+  pub step_from : (opening t : Tree) (b : List Bounds) (p : List Bool) (k : ℕ) → IsBox b → length b ≡ dims → Paves b opening → IsStageFrom rule depth b opening k t → subtree t p ≡ Some leaf
+      → IsStageFrom rule depth b opening k (graft t p (settled (rule (box_of b t p) (depth - (k + length p)) (k + length p))))
+  step_from opening t b p k h e q stage l =
+      let n = k + length p in let o = rule (box_of b t p) (depth - n) n in (
+        grows_on opening t (graft t p (settled o)) stage.0 (graft_grows t p (settled o) l),
+        step_grows t p (full_of rule depth b opening k) o l stage.1 (rule_at p opening t b k n h e q stage.0 stage.1 l (omega arith)),
+      )
+
   pub step_stage : (opening t : Tree) (b : List Bounds) (p : List Bool) → IsBox b → length b ≡ dims → Paves b opening → IsStage rule depth b opening t → subtree t p ≡ Some leaf
       → IsStage rule depth b opening (graft t p (settled (rule (box_of b t p) (depth - length p) (length p))))
-  step_stage opening t b p h e q stage l = record {
-    grown = grows_on opening t (graft t p (settled (rule (box_of b t p) (depth - length p) (length p)))) stage.grown (graft_grows t p (settled (rule (box_of b t p) (depth - length p) (length p))) l);
-    grows = step_grows t p (full_of rule depth b opening 0) (rule (box_of b t p) (depth - length p) (length p)) l stage.grows
-        (rule_at p opening t b 0 (length p) h e q stage.grown stage.grows l (omega arith));
-  }
+  step_stage opening t b p h e q stage l =
+      let from : 0 + length p ≡ length p = omega arith in
+      let next = subst (λ n. IsStageFrom rule depth b opening 0 (graft t p (settled (rule (box_of b t p) (depth - n) n)))) from (step_from opening t b p 0 h e q (stage.grown, stage.grows) l) in
+      record { grown = next.0; grows = next.1 }
 
   -- and a stage with no open leaf is the full tree
   pub whole_stage : (b : List Bounds) (opening t : Tree) → IsStage rule depth b opening t → opens t ≡ [] → t ≡ full_of rule depth b opening 0

@@ -38,6 +38,10 @@ pub record IsStage (rule : Rule) (depth : ℕ) (b : List Bounds) (opening t : Tr
   pub grown : Grows opening t
   pub grows : Grows t (full_of rule depth b opening 0)
 
+-- The same of an opening whose root stands at a path of k steps.
+abbrev pub IsStageFrom : Rule → ℕ → List Bounds → Tree → ℕ → Tree → Type 0
+IsStageFrom rule depth b opening k t = Grows opening t × Grows t (full_of rule depth b opening k)
+
 -- The tree of a paving in which the leaf at a path is settled by a rule, with the cuts that the depth leaves.
 abbrev pub settled_by : Rule → ℕ → Seen → List Bool → Tree
 settled_by rule depth p path = graft p.tree path (settled (rule (box_of p.root p.tree path) (depth - length path) (length path)))

@@ -1,5 +1,5 @@
 //! Pavings.
-ghost use Rattle.std.specs.Prelude.{◌≡◌, ◌+◌, ◌-◌, ◌*◌, ◌<◌, ◌≤◌, ◌^◌, ◌++◌, if◌then◌else◌, is_ok, IfOk, IfErr, OnOk, OnErr, IfSome, IsSome, Some, length};
+ghost use Rattle.std.specs.Prelude.{◌≡◌, ◌+◌, ◌-◌, ◌*◌, ◌<◌, ◌≤◌, ◌^◌, ◌++◌, if◌then◌else◌, is_ok, IfOk, IfErr, OnOk, OnErr, IfSome, IsSome, IsTrue, Some, [], false, length};
 ghost use Rattle.pv_tree.specs.Sets.{Covers};
 ghost use Rattle.pv_tree.specs.Trees.{Tree, leaf, subtree, graft, settled, Fits, HasDepth, IsPaving, box_of, to_at, shape_of, counts_of, settled_of, height, opens, first, behind, Seen};
 ghost use Rattle.pv_tree.specs.declared.path.TheConstants.{MOST_STEPS};
@@ -205,6 +205,17 @@ impl Paving {
                 path: Path::root(),
             },
         )
+    }
+
+    /// Whether no leaf is open.
+    pub fn is_closed(&self) -> bool
+        ensures closed { IsTrue result → opens self.now.tree ≡ [] }
+        ensures open { result ≡ false → opens self.now.tree ≡ [] → ⊥ }
+    {
+        match self.first_open() {
+            None => true,
+            Some(_) => false,
+        }
     }
 
     /// An equal paving, which has no room of its own.

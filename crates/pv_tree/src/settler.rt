@@ -1,6 +1,8 @@
 //! What settles a box.
+ghost use Rattle.std.specs.Prelude.{◌≡◌, ◌-◌, length, IfOk};
 
 use crate::outcome::Outcome;
+use crate::path::Path;
 use pv_box::IBox;
 use pv_num::Memory;
 use std::alloc::Global;
@@ -59,4 +61,26 @@ pub trait Settler {
     ghost ends: { (s : Self) (b : List Bounds) (d k : ℕ) → IsBox b → length b ≡ dims s → CutsAbove d (settle_of s b d k) };
 
     ghost sound: { (s : Self) (b : List Bounds) (d k : ℕ) → IsBox b → length b ≡ dims s → IsSoundOutcome (inside s) b (settle_of s b d k) };
+}
+
+/// The cuts that are left below a path of so many steps.
+pub(crate) fn cuts_left<S: Settler>(settler: &S, steps: u32) -> u32
+    ensures { result ≡ S.depth_of settler.now - steps }
+{
+    settler.depth().saturating_sub(steps)
+}
+
+/// Settles the box of a path, with the cuts that the path leaves.
+pub fn settle_at<S: Settler>(
+    alloc: Global,
+    settler: &S,
+    bx: &IBox,
+    path: Path,
+) -> Result<Outcome, Memory>
+    requires { length bx.now ≡ S.dims settler.now }
+    ensures { IfOk result (λ o. o ≡ S.settle_of settler.now bx.now
+        (S.depth_of settler.now - length path) (length path)) }
+{
+    let steps = path.len();
+    settler.settle(alloc, bx, cuts_left(settler, steps), steps)
 }

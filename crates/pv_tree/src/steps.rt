@@ -13,7 +13,7 @@ ghost use Rattle.pv_tree.specs.Laws.{StagesAreSound};
 
 use crate::path::Path;
 use crate::paving::Paving;
-use crate::settler::Settler;
+use crate::settler::{Settler, settle_at};
 use pv_box::IBox;
 use pv_num::Memory;
 use std::alloc::Global;
@@ -44,9 +44,7 @@ impl Paving {
         let _places = self.dims();
         self.box_at(path, scratch);
         let _sides = scratch.dims();
-        let steps = path.len();
-        let cuts_left = settler.depth().saturating_sub(steps);
-        let outcome = settler.settle(alloc, scratch, cuts_left, steps)?;
+        let outcome = settle_at(alloc, settler, scratch, path)?;
         match self.put(path, outcome) {
             Ok(()) => Ok(()),
             Err(_) => Err(Memory),

@@ -5,7 +5,7 @@ ghost use Rattle.pv_workers.specs.Accounts.{parts_in, AllBelow};
 ghost use Rattle.pv_box.specs.declared.boxes.TheConstants.{MOST_PLACES};
 ghost use Rattle.pv_tree.specs.declared.limit.TheConstants.{MOST_WORKERS};
 
-use crate::workspace::Workspace;
+use crate::bench::Bench;
 use pv_board::{Naming, Told};
 use pv_num::Memory;
 use pv_tree::KnowingSettler;
@@ -16,7 +16,7 @@ use std::marker::Model;
 #[derive(Drop)]
 pub(crate) struct Account<N: Naming, S: KnowingSettler> {
     pub(crate) told: Told<N>,
-    pub(crate) workspace: Workspace<S>,
+    pub(crate) bench: Bench<S>,
     pub(crate) is_hungry: bool,
 }
 
@@ -30,19 +30,19 @@ impl<N: Naming, S: KnowingSettler> Model for Account<N, S> {
 
     ghost view = { λ a. a.told };
 
-    ghost invariant = { λ a. (length a.workspace.scratch ≡ N.dims) × (a.workspace.tickets ≡ []) };
+    ghost invariant = { λ a. (length a.bench.workspace.scratch ≡ N.dims) × (a.bench.tickets ≡ []) };
 }
 
 impl<N: Naming, S: KnowingSettler> Account<N, S> {
     // An account with these counts.
-    fn new(told: Told<N>, workspace: Workspace<S>) -> Account<N, S>
-        requires places { length workspace.scratch ≡ N.dims }
-        requires none { workspace.tickets ≡ [] }
+    fn new(told: Told<N>, bench: Bench<S>) -> Account<N, S>
+        requires places { length bench.workspace.scratch ≡ N.dims }
+        requires none { bench.tickets ≡ [] }
         ensures { result ≡ told }
     {
         Account {
             told,
-            workspace,
+            bench,
             is_hungry: false,
         }
     }
@@ -53,7 +53,7 @@ impl<N: Naming, S: KnowingSettler> Account<N, S> {
     {
         let Account {
             told,
-            workspace: _,
+            bench: _,
             is_hungry: _,
         } = self;
         told
@@ -81,11 +81,11 @@ pub(crate) fn split<N: Naming, S: KnowingSettler>(
     let mut told = told;
     let mut accounts = Vec::with_capacity(alloc, workers as usize)?;
     for _worker in 1..workers {
-        let workspace = Workspace::of(alloc, settler, places)?;
-        accounts.push_reserved(Account::new(told.split(), workspace));
+        let bench = Bench::of(alloc, settler, places)?;
+        accounts.push_reserved(Account::new(told.split(), bench));
     }
-    let workspace = Workspace::of(alloc, settler, places)?;
-    accounts.push_reserved(Account::new(told, workspace));
+    let bench = Bench::of(alloc, settler, places)?;
+    accounts.push_reserved(Account::new(told, bench));
     Ok(accounts)
 }
 

@@ -8,10 +8,10 @@ ghost use Rattle.pv_workers.specs.Accounts.{numbers_of};
 ghost use Rattle.pv_board.specs.declared.told.TheConstants.{MOST_TICKET_NODES};
 
 use crate::account::Account;
+use crate::bench::Bench;
 use crate::ruled::Ruled;
 use crate::stage::Stager;
 use crate::task::{Task, TaskParts, hand_out};
-use crate::workspace::Workspace;
 use pv_board::{Look, MOST_GRANT, Naming, Settled, Shared, Ticket, Told};
 use pv_box::IBox;
 use pv_num::Memory;
@@ -60,19 +60,19 @@ where
         self.begin(rt, account);
         let mut parts = task.into_parts();
         let told = &mut account.told;
-        let workspace = &mut account.workspace;
+        let bench = &mut account.bench;
         let want = wanted(&parts.ticket);
         let Some(left) = self
             .shared
-            .prepare(rt, &mut parts.ticket, want, &mut workspace.scratch)
+            .prepare(rt, &mut parts.ticket, want, &mut bench.workspace.scratch)
         else {
             self.shared.give_back(rt, parts.ticket, told);
             return;
         };
         if is_staged(&parts.ticket) {
-            self.settle_stage(rt, worker, parts, left, workspace, told, children);
+            self.settle_stage(rt, worker, parts, left, bench, told, children);
         } else {
-            self.settle(rt, worker, parts, &workspace.scratch, told, children);
+            self.settle(rt, worker, parts, &bench.workspace.scratch, told, children);
         }
     }
 
@@ -170,23 +170,23 @@ impl<'a, N: Naming, S: KnowingSettler, G: Gate> Crew<'a, N, S, G> {
         worker: u64,
         parts: TaskParts<'a, N, S>,
         left: u64,
-        workspace: &mut Workspace<S>,
+        bench: &mut Bench<S>,
         told: &mut Told<N>,
         children: &mut Batch<Task<'a, N, S>>,
     )
         requires low { IsLow told.old }
-        requires places { length workspace.old.scratch ≡ N.dims }
+        requires places { length bench.old.workspace.scratch ≡ N.dims }
         requires there { IsSome (subtree (full_of N.rule N.depth N.root N.opening 0)
             parts.ticket.path) }
-        requires leaf { workspace.old.scratch ≡ box_of N.root
+        requires leaf { bench.old.workspace.scratch ≡ box_of N.root
             (full_of N.rule N.depth N.root N.opening 0) parts.ticket.path }
-        requires known { S.knows parts.ruled.now.settler.now parts.known workspace.old.scratch }
-        requires tickets { workspace.old.tickets ≡ [] }
+        requires known { S.knows parts.ruled.now.settler.now parts.known bench.old.workspace.scratch }
+        requires tickets { bench.old.tickets ≡ [] }
         requires none { children.old ≡ [] }
         ensures told { numbers_of told.new ≡
             after_work (length children.new) (numbers_of told.old) }
-        ensures places { length workspace.new.scratch ≡ N.dims }
-        ensures tickets { workspace.new.tickets ≡ [] }
+        ensures places { length bench.new.workspace.scratch ≡ N.dims }
+        ensures tickets { bench.new.tickets ≡ [] }
     {
         let TaskParts {
             ticket,
@@ -203,14 +203,14 @@ impl<'a, N: Naming, S: KnowingSettler, G: Gate> Crew<'a, N, S, G> {
             worker,
             at: path,
         };
-        match stager.grow(known, most, workspace) {
+        match stager.grow(known, most, bench) {
             Ok(stage) => {
-                let tickets = &mut workspace.tickets;
-                let leaves = workspace.leaves.as_slice();
+                let tickets = &mut bench.tickets;
+                let leaves = bench.leaves.as_slice();
                 self.shared
                     .settle_stage(rt, ticket, &stage, leaves, told, tickets);
                 let _count = tickets.len();
-                hand_out(ruled, tickets, &mut workspace.facts, children);
+                hand_out(ruled, tickets, &mut bench.workspace.facts, children);
             }
             Err(Memory) => give_up(rt, self.shared, ticket, told),
         }

@@ -9,10 +9,9 @@ ghost use Rattle.pv_workers.specs.Leaves.{AreOpen};
 ghost use Rattle.pv_workers.specs.Pavings.{IsSpent};
 
 use crate::paving::Paved;
-use crate::workspace::{Workspace, blank};
 use pv_num::Memory;
 use pv_pool::Gate;
-use pv_tree::{Growth, KnowingSettler, Path, Paving};
+use pv_tree::{Grower, KnowingSettler, Path, Paving, Workspace};
 use std::alloc::Global;
 
 /// Settles the open leaves of an opening that is one open leaf, each time the first one in
@@ -39,15 +38,13 @@ pub(crate) fn grow<S: KnowingSettler, G: Gate>(
     ensures spent { IfOk result (λ p.
         settled_in p.paving.tree ≡ settled_in opening.now.tree + p.spent) }
 {
-    let places = opening.dims();
-    let mut workspace = Workspace::of(alloc, settler, places)?;
-    workspace.facts.push(settler.nothing())?;
-    let mut root = blank(alloc, places)?;
-    opening.box_at(Path::root(), &mut root);
-    let mut growth = Growth::open(alloc, root)?;
-    let own = grow_all(alloc, settler, &mut growth, &mut workspace, budget, gate)?;
+    let mut workspace = Workspace::of(alloc, settler, opening.dims())?;
+    let at = Path::root();
+    opening.box_at(at, &mut workspace.scratch);
+    let mut grower = Grower::open(alloc, settler, at, settler.nothing(), &mut workspace)?;
+    let own = grow_all(alloc, settler, &mut grower, &mut workspace, budget, gate)?;
     Ok(Paved {
-        paving: growth.finish(),
+        paving: grower.finish(),
         spent: u128::from(own),
     })
 }
@@ -56,29 +53,30 @@ pub(crate) fn grow<S: KnowingSettler, G: Gate>(
 fn grow_all<S: KnowingSettler, G: Gate>(
     alloc: Global,
     settler: &S,
-    growth: &mut Growth,
+    grower: &mut Grower,
     workspace: &mut Workspace<S>,
     budget: u64,
     gate: &G,
 ) -> Result<u64, Memory>
-    requires dims { length growth.old.root ≡ S.dims settler.now }
+    requires dims { length grower.old.growth.root ≡ S.dims settler.now }
     requires facts { AreKnown (S.knows settler.now)
-        (reverse workspace.old.facts.items) growth.old.holes }
-    requires scratch { length workspace.old.scratch ≡ length growth.old.root }
-    requires open { AreOpen growth.old }
-    ensures root { growth.new.root ≡ growth.old.root }
+        (reverse workspace.old.facts.items) grower.old.growth.holes }
+    requires scratch { length workspace.old.scratch ≡ length grower.old.growth.root }
+    requires open { AreOpen grower.old.growth }
+    requires at { grower.old.at ≡ [] }
+    ensures root { grower.new.growth.root ≡ grower.old.growth.root }
     ensures stage { OnOk result
-        ((opening : Tree) → Paves growth.old.root opening
+        ((opening : Tree) → Paves grower.old.growth.root opening
         → IsStage (S.settle_of settler.now)
-        (S.depth_of settler.now) growth.old.root opening growth.old.tree
+        (S.depth_of settler.now) grower.old.growth.root opening grower.old.growth.tree
         → IsStage (S.settle_of settler.now)
-        (S.depth_of settler.now) growth.new.root opening growth.new.tree) }
-    ensures spent { OnOk result (IsSpent budget growth.old.tree growth.new.tree) }
+        (S.depth_of settler.now) grower.new.growth.root opening grower.new.growth.tree) }
+    ensures spent { OnOk result (IsSpent budget grower.old.growth.tree grower.new.growth.tree) }
     ensures count { IfOk result (λ own.
-        settled_in growth.new.tree ≡ settled_in growth.old.tree + own) }
+        settled_in grower.new.growth.tree ≡ settled_in grower.old.growth.tree + own) }
 {
     for settled in 0..budget {
-        if !grow_one(alloc, settler, growth, workspace, gate)? {
+        if !grow_one(alloc, settler, grower, workspace, gate)? {
             return Ok(settled);
         }
     }
@@ -89,42 +87,37 @@ fn grow_all<S: KnowingSettler, G: Gate>(
 fn grow_one<S: KnowingSettler, G: Gate>(
     alloc: Global,
     settler: &S,
-    growth: &mut Growth,
+    grower: &mut Grower,
     workspace: &mut Workspace<S>,
     gate: &G,
 ) -> Result<bool, Memory>
-    requires dims { length growth.old.root ≡ S.dims settler.now }
+    requires dims { length grower.old.growth.root ≡ S.dims settler.now }
     requires facts { AreKnown (S.knows settler.now)
-        (reverse workspace.old.facts.items) growth.old.holes }
-    requires scratch { length workspace.old.scratch ≡ length growth.old.root }
-    requires open { AreOpen growth.old }
-    ensures root { growth.new.root ≡ growth.old.root }
+        (reverse workspace.old.facts.items) grower.old.growth.holes }
+    requires scratch { length workspace.old.scratch ≡ length grower.old.growth.root }
+    requires open { AreOpen grower.old.growth }
+    requires at { grower.old.at ≡ [] }
+    ensures root { grower.new.growth.root ≡ grower.old.growth.root }
     ensures scratch { length workspace.new.scratch ≡ length workspace.old.scratch }
-    ensures facts { AreKnown (S.knows settler.now)
-        (reverse workspace.new.facts.items) growth.new.holes }
-    ensures open { OnOk result (AreOpen growth.new) }
+    ensures facts { OnOk result (AreKnown (S.knows settler.now)
+        (reverse workspace.new.facts.items) grower.new.growth.holes) }
+    ensures at { grower.new.at ≡ grower.old.at }
+    ensures open { OnOk result (AreOpen grower.new.growth) }
     ensures stage { OnOk result
-        ((opening : Tree) → Paves growth.old.root opening
+        ((opening : Tree) → Paves grower.old.growth.root opening
         → IsStage (S.settle_of settler.now)
-        (S.depth_of settler.now) growth.old.root opening growth.old.tree
+        (S.depth_of settler.now) grower.old.growth.root opening grower.old.growth.tree
         → IsStage (S.settle_of settler.now)
-        (S.depth_of settler.now) growth.new.root opening growth.new.tree) }
+        (S.depth_of settler.now) grower.new.growth.root opening grower.new.growth.tree) }
     ensures count { IfOk result
-        (λ more. settled_in growth.new.tree ≡ settled_in growth.old.tree + one_if more) }
-    ensures none { IfOk result (λ more. more ≡ false → opens growth.new.tree ≡ []) }
+        (λ more. settled_in grower.new.growth.tree ≡ settled_in grower.old.growth.tree + one_if more) }
+    ensures none { IfOk result (λ more. more ≡ false → opens grower.new.growth.tree ≡ []) }
 {
-    match growth.next_leaf() {
+    match grower.next() {
         None => Ok(false),
         Some(path) => {
             gate.enter(0, path);
-            growth.settle_knowing(
-                alloc,
-                settler,
-                &mut workspace.room,
-                &mut workspace.facts,
-                path,
-                &mut workspace.scratch,
-            )?;
+            grower.step(alloc, settler, workspace, path)?;
             Ok(true)
         }
     }

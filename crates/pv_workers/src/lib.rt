@@ -3,6 +3,7 @@
 #![tactic(auto)]
 
 mod account;
+mod bench;
 mod budget;
 mod crew;
 mod growing;
@@ -12,7 +13,6 @@ mod rest;
 mod ruled;
 mod stage;
 mod task;
-mod workspace;
 
 pub use budget::Budget;
 pub use paving::{Paved, pave, pave_knowing};

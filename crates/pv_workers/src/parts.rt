@@ -1,6 +1,5 @@
 //! Paving part by part, so that room is made by need.
-ghost use Rattle.std.specs.Prelude.{◌≡◌, ◌+◌, ◌*◌, ◌^◌, ◌<◌, ◌≤◌, [], length, IfOk, IsTrue, false};
-ghost use Rattle.pv_tree.specs.Trees.{opens};
+ghost use Rattle.std.specs.Prelude.{◌≡◌, ◌+◌, ◌*◌, ◌^◌, ◌<◌, ◌≤◌, length, IfOk};
 ghost use Rattle.pv_tree.specs.Stages.{IsStage};
 ghost use Rattle.pv_board.specs.Rules.{settled_in};
 ghost use Rattle.pv_workers.specs.Pavings.{IsSpent};
@@ -65,7 +64,7 @@ where
         if left == 0 {
             return Ok(next);
         }
-        if is_done(&next.paving) {
+        if next.paving.is_closed() {
             return Ok(next);
         }
         paved = next;
@@ -80,17 +79,6 @@ fn part_of(paving: &Paving, left: u64) -> u64
     ensures few { result ≤ left }
 {
     left.min(paving.counts().settled().max(LEAST_PART))
-}
-
-// Whether no leaf is open.
-fn is_done(paving: &Paving) -> bool
-    ensures done { IsTrue result → opens paving.now.tree ≡ [] }
-    ensures open { result ≡ false → opens paving.now.tree ≡ [] → ⊥ }
-{
-    match paving.first_open() {
-        None => true,
-        Some(_) => false,
-    }
 }
 
 // Spends one part on what was paved so far.

@@ -1,13 +1,12 @@
 //! A settler whose rule is the one that a board is named for.
 ghost use Rattle.std.specs.Prelude.{◌≡◌, ◌-◌, ◌≤◌, List, length, IfOk};
 ghost use Rattle.pv_interval.specs.Bounds.{Bounds};
-ghost use Rattle.pv_tree.specs.KnownHalves.{HoldsOfHalves};
 ghost use Rattle.pv_box.specs.declared.boxes.TheConstants.{MOST_PLACES};
 
 use pv_board::Naming;
 use pv_box::IBox;
 use pv_num::Memory;
-use pv_tree::{KnowingSettler, Outcome, Path, Settled, Settler};
+use pv_tree::{KnowingSettler, Outcome, Path, Settler, settle_at};
 use std::alloc::Global;
 use std::marker::PhantomData;
 
@@ -48,9 +47,7 @@ impl<'a, N: Naming, S: Settler> Ruled<'a, N, S> {
         requires { length bx.now ≡ N.dims }
         ensures { IfOk result (λ o. o ≡ N.rule bx.now (N.depth - length path) (length path)) }
     {
-        let steps = path.len();
-        let cuts_left = self.settler.depth().saturating_sub(steps);
-        self.settler.settle(alloc, bx, cuts_left, steps)
+        settle_at(alloc, self.settler, bx, path)
     }
 }
 
@@ -60,27 +57,5 @@ impl<'a, N: Naming, S: KnowingSettler> Ruled<'a, N, S> {
         ensures { (b : List Bounds) → S.knows self.now.settler.now result b }
     {
         self.settler.nothing()
-    }
-
-    /// The outcome for the box of a path, where something is known of the box.
-    pub(crate) fn settle_knowing(
-        &self,
-        alloc: Global,
-        room: &mut S::Room,
-        bx: &IBox,
-        known: S::Known,
-        path: Path,
-    ) -> Result<Settled<S::Known>, Memory>
-        requires dims { length bx.now ≡ N.dims }
-        requires known { S.knows self.now.settler.now known bx.now }
-        ensures outcome { IfOk result (λ s. s.outcome ≡
-            N.rule bx.now (N.depth - length path) (length path)) }
-        ensures known { IfOk result (λ s.
-            HoldsOfHalves (S.knows self.now.settler.now s.known) s.outcome) }
-    {
-        let steps = path.len();
-        let cuts_left = self.settler.depth().saturating_sub(steps);
-        self.settler
-            .settle_knowing(alloc, room, bx, known, cuts_left, steps)
     }
 }

@@ -7,15 +7,15 @@ ghost use Rattle.pv_tree.specs.KnownLeaves.{AreKnown};
 ghost use Rattle.pv_board.specs.Events.{leaves_at};
 ghost use Rattle.pv_board.specs.Rules.{IsStageBelow, settled_in};
 ghost use Rattle.pv_workers.specs.Facts.{AreFacts, AreLaid};
-ghost use Rattle.pv_workers.specs.Leaves.{AreOpen, with_handed};
+ghost use Rattle.pv_workers.specs.Leaves.{AreOpen};
 ghost use Rattle.pv_tree.specs.declared.path.TheConstants.{MOST_STEPS};
 
+use crate::bench::Bench;
 use crate::ruled::Ruled;
-use crate::workspace::Workspace;
 use pv_board::{Naming, Shared};
 use pv_num::Memory;
 use pv_pool::Gate;
-use pv_tree::{Growth, KnowingSettler, MOST_BATCH, Outcome, Path, Paving, Settled};
+use pv_tree::{Grower, KnowingSettler, MOST_BATCH, Path, Paving, Workspace};
 use std::alloc::Global;
 
 /// From so many nodes on a stage is ended where another worker has nothing to do.
@@ -35,10 +35,10 @@ pub(crate) struct Stager<'a, N: Naming, S: KnowingSettler, G: Gate> {
 }
 
 impl<'a, N: Naming, S: KnowingSettler, G: Gate> Stager<'a, N, S, G> {
-    /// Settles up to `most` nodes of the box in `workspace.scratch`, which is that of the leaf, each
+    /// Settles up to `most` nodes of the box in the workspace, which is that of the leaf, each
     /// time the first open leaf; fewer where another worker has nothing to do. What is known of a box
     /// is handed to its halves. The paths of the stage's open leaves from the root of all are left in
-    /// `workspace.leaves`, and what is known of them in `workspace.facts`, that of the first one last.
+    /// `bench.leaves`, and what is known of them in the workspace, that of the first one last.
     ///
     /// # Errors
     ///
@@ -47,34 +47,33 @@ impl<'a, N: Naming, S: KnowingSettler, G: Gate> Stager<'a, N, S, G> {
         &self,
         known: S::Known,
         most: u64,
-        workspace: &mut Workspace<S>,
+        bench: &mut Bench<S>,
     ) -> Result<Paving, Memory>
         requires some { 1 ≤ most }
-        requires places { length workspace.old.scratch ≡ N.dims }
-        requires known { S.knows self.now.ruled.now.settler.now known workspace.old.scratch }
-        ensures root { IfOk result (λ p. p.root ≡ workspace.old.scratch) }
+        requires places { length bench.old.workspace.scratch ≡ N.dims }
+        requires known { S.knows self.now.ruled.now.settler.now known bench.old.workspace.scratch }
+        ensures root { IfOk result (λ p. p.root ≡ bench.old.workspace.scratch) }
         ensures stage { IfOk result (λ p.
-            IsStageBelow N.rule N.depth workspace.old.scratch (length self.now.at) p.tree) }
+            IsStageBelow N.rule N.depth bench.old.workspace.scratch (length self.now.at) p.tree) }
         ensures some { IfOk result (λ p. 1 ≤ settled_in p.tree) }
         ensures few { IfOk result (λ p. settled_in p.tree ≤ most) }
         ensures leaves { IfOk result (λ p.
-            workspace.new.leaves.items ≡ leaves_at self.now.at p.tree) }
-        ensures few_leaves { IfOk result (λ _. vec_len workspace.new.leaves ≤ MOST_BATCH) }
+            bench.new.leaves.items ≡ leaves_at self.now.at p.tree) }
+        ensures few_leaves { IfOk result (λ _. vec_len bench.new.leaves ≤ MOST_BATCH) }
         ensures facts { IfOk result (λ p. AreFacts (S.knows self.now.ruled.now.settler.now)
-            (box_of workspace.old.scratch
-            (full_of N.rule N.depth workspace.old.scratch leaf (length self.now.at)))
-            (opens p.tree) (reverse workspace.new.facts.items)) }
-        ensures places { length workspace.new.scratch ≡ N.dims }
-        ensures tickets { workspace.new.tickets ≡ workspace.old.tickets }
+            (box_of bench.old.workspace.scratch
+            (full_of N.rule N.depth bench.old.workspace.scratch leaf (length self.now.at)))
+            (opens p.tree) (reverse bench.new.workspace.facts.items)) }
+        ensures places { length bench.new.workspace.scratch ≡ N.dims }
+        ensures tickets { bench.new.tickets ≡ bench.old.tickets }
     {
-        let mut stage = Growth::open(self.alloc, workspace.scratch.clone_of(self.alloc)?)?;
-        let _places = stage.dims();
+        let settler = self.ruled.settler;
+        let mut stage = Grower::open(self.alloc, settler, self.at, known, &mut bench.workspace)?;
+        let _places = stage.growth.dims();
         let _steps = self.at.len();
-        workspace.facts.clear();
-        workspace.facts.push(known)?;
-        self.settle_next(Path::root(), &mut stage, workspace)?;
-        self.grow_on(most, &mut stage, workspace)?;
-        list_leaves(&mut stage, self.at, &mut workspace.leaves)?;
+        self.settle_next(Path::root(), &mut stage, &mut bench.workspace)?;
+        self.grow_on(most, &mut stage, &mut bench.workspace)?;
+        list_leaves(&mut stage, &mut bench.leaves)?;
         Ok(stage.finish())
     }
 
@@ -82,38 +81,39 @@ impl<'a, N: Naming, S: KnowingSettler, G: Gate> Stager<'a, N, S, G> {
     fn grow_on(
         &self,
         most: u64,
-        stage: &mut Growth,
+        stage: &mut Grower,
         workspace: &mut Workspace<S>,
     ) -> Result<(), Memory>
         requires some { 1 ≤ most }
-        requires one { settled_in stage.old.tree ≡ 1 }
-        requires dims { length stage.old.root ≡ N.dims }
-        requires stage { IsStageBelow N.rule N.depth stage.old.root (length self.now.at)
-            stage.old.tree }
+        requires one { settled_in stage.old.growth.tree ≡ 1 }
+        requires dims { length stage.old.growth.root ≡ N.dims }
+        requires stage { IsStageBelow N.rule N.depth stage.old.growth.root (length self.now.at)
+            stage.old.growth.tree }
         requires facts { AreKnown (S.knows self.now.ruled.now.settler.now)
-            (reverse workspace.old.facts.items) stage.old.holes }
+            (reverse workspace.old.facts.items) stage.old.growth.holes }
         requires few_facts { vec_len workspace.old.facts ≤ MOST_BATCH }
         requires laid { AreLaid
-            (full_of N.rule N.depth stage.old.root leaf (length self.now.at)) stage.old }
+            (full_of N.rule N.depth stage.old.growth.root leaf (length self.now.at)) stage.old.growth }
         requires places { length workspace.old.scratch ≡ N.dims }
-        ensures root { stage.new.root ≡ stage.old.root }
-        ensures stage { OnOk result (IsStageBelow N.rule N.depth stage.new.root
-            (length self.now.at) stage.new.tree) }
-        ensures some { OnOk result (1 ≤ settled_in stage.new.tree) }
-        ensures few { OnOk result (settled_in stage.new.tree ≤ most) }
+        requires at { stage.old.at ≡ self.now.at }
+        ensures at { stage.new.at ≡ stage.old.at }
+        ensures root { stage.new.growth.root ≡ stage.old.growth.root }
+        ensures stage { OnOk result (IsStageBelow N.rule N.depth stage.new.growth.root
+            (length self.now.at) stage.new.growth.tree) }
+        ensures some { OnOk result (1 ≤ settled_in stage.new.growth.tree) }
+        ensures few { OnOk result (settled_in stage.new.growth.tree ≤ most) }
         ensures facts { OnOk result (AreKnown (S.knows self.now.ruled.now.settler.now)
-            (reverse workspace.new.facts.items) stage.new.holes) }
+            (reverse workspace.new.facts.items) stage.new.growth.holes) }
         ensures few_facts { OnOk result (vec_len workspace.new.facts ≤ MOST_BATCH) }
         ensures laid { OnOk result (AreLaid
-            (full_of N.rule N.depth stage.new.root leaf (length self.now.at)) stage.new) }
+            (full_of N.rule N.depth stage.new.growth.root leaf (length self.now.at)) stage.new.growth) }
         ensures places { length workspace.new.scratch ≡ N.dims }
-        ensures tickets { workspace.new.tickets ≡ workspace.old.tickets }
     {
         for settled in 1..most {
             if is_long(settled, workspace.facts.len(), self.shared) {
                 return Ok(());
             }
-            let Some(path) = stage.next_leaf() else {
+            let Some(path) = stage.next() else {
                 return Ok(());
             };
             self.settle_next(path, stage, workspace)?;
@@ -125,54 +125,36 @@ impl<'a, N: Naming, S: KnowingSettler, G: Gate> Stager<'a, N, S, G> {
     fn settle_next(
         &self,
         path: Path,
-        stage: &mut Growth,
+        stage: &mut Grower,
         workspace: &mut Workspace<S>,
     ) -> Result<(), Memory>
-        requires next { IsNext stage.old path }
-        requires dims { length stage.old.root ≡ N.dims }
-        requires stage { IsStageBelow N.rule N.depth stage.old.root (length self.now.at)
-            stage.old.tree }
+        requires next { IsNext stage.old.growth path }
+        requires dims { length stage.old.growth.root ≡ N.dims }
+        requires stage { IsStageBelow N.rule N.depth stage.old.growth.root (length self.now.at)
+            stage.old.growth.tree }
         requires facts { AreKnown (S.knows self.now.ruled.now.settler.now)
-            (reverse workspace.old.facts.items) stage.old.holes }
+            (reverse workspace.old.facts.items) stage.old.growth.holes }
         requires laid { AreLaid
-            (full_of N.rule N.depth stage.old.root leaf (length self.now.at)) stage.old }
+            (full_of N.rule N.depth stage.old.growth.root leaf (length self.now.at)) stage.old.growth }
         requires places { length workspace.old.scratch ≡ N.dims }
-        ensures root { stage.new.root ≡ stage.old.root }
-        ensures stage { OnOk result (IsStageBelow N.rule N.depth stage.new.root
-            (length self.now.at) stage.new.tree) }
-        ensures more { OnOk result (settled_in stage.new.tree ≡ settled_in stage.old.tree + 1) }
+        requires at { stage.old.at ≡ self.now.at }
+        ensures at { stage.new.at ≡ stage.old.at }
+        ensures root { stage.new.growth.root ≡ stage.old.growth.root }
+        ensures stage { OnOk result (IsStageBelow N.rule N.depth stage.new.growth.root
+            (length self.now.at) stage.new.growth.tree) }
+        ensures more { OnOk result (settled_in stage.new.growth.tree ≡ settled_in stage.old.growth.tree + 1) }
         ensures facts { OnOk result (AreKnown (S.knows self.now.ruled.now.settler.now)
-            (reverse workspace.new.facts.items) stage.new.holes) }
+            (reverse workspace.new.facts.items) stage.new.growth.holes) }
         ensures laid { OnOk result (AreLaid
-            (full_of N.rule N.depth stage.new.root leaf (length self.now.at)) stage.new) }
+            (full_of N.rule N.depth stage.new.growth.root leaf (length self.now.at)) stage.new.growth) }
         ensures few_facts { OnOk result
             (vec_len workspace.new.facts ≤ vec_len workspace.old.facts + 1) }
         ensures places { length workspace.new.scratch ≡ N.dims }
-        ensures tickets { workspace.new.tickets ≡ workspace.old.tickets }
     {
-        let _places = stage.dims();
+        let _places = stage.growth.dims();
         let _steps = self.at.len();
-        let whole = self.at.then(path);
-        self.gate.enter(self.worker, whole);
-        stage.write_box(&mut workspace.scratch);
-        let Some(known) = workspace.facts.pop() else {
-            unreachable!()
-        };
-        let Settled {
-            outcome,
-            known: below,
-        } = self.ruled.settle_knowing(
-            self.alloc,
-            &mut workspace.room,
-            &workspace.scratch,
-            known,
-            whole,
-        )?;
-        hand_on(&mut workspace.facts, &outcome, below)?;
-        match stage.settle(outcome) {
-            Ok(()) => {}
-            Err(_) => return Err(Memory),
-        }
+        self.gate.enter(self.worker, self.at.then(path));
+        stage.step(self.alloc, self.ruled.settler, workspace, path)?;
         Ok(())
     }
 }
@@ -187,35 +169,20 @@ fn is_long<N: Naming>(settled: u64, leaves: usize, shared: &Shared<N>) -> bool
     SHARED_FROM <= settled && shared.is_hungry()
 }
 
-// Lists the open leaves of a stage at a path, and passes them.
-fn list_leaves(stage: &mut Growth, at: Path, leaves: &mut Vec<Path>) -> Result<(), Memory>
-    requires open { AreOpen stage.old }
-    requires short { (p : List Bool) → subtree stage.old.tree p ≡ Some leaf →
-        length at + length p ≤ MOST_STEPS }
-    ensures root { stage.new.root ≡ stage.old.root }
-    ensures tree { stage.new.tree ≡ stage.old.tree }
-    ensures leaves { OnOk result (leaves.new.items ≡ leaves_at at stage.old.tree) }
+// Lists the open leaves of a stage, and passes them.
+fn list_leaves(stage: &mut Grower, leaves: &mut Vec<Path>) -> Result<(), Memory>
+    requires open { AreOpen stage.old.growth }
+    requires short { (p : List Bool) → subtree stage.old.growth.tree p ≡ Some leaf →
+        length stage.old.at + length p ≤ MOST_STEPS }
+    ensures root { stage.new.growth.root ≡ stage.old.growth.root }
+    ensures tree { stage.new.growth.tree ≡ stage.old.growth.tree }
+    ensures leaves { OnOk result
+        (leaves.new.items ≡ leaves_at stage.old.at stage.old.growth.tree) }
 {
     leaves.clear();
-    while let Some(path) = stage.next_leaf() {
-        leaves.push(at.then(path))?;
-        stage.pass();
+    while let Some(path) = stage.next() {
+        leaves.push(stage.at.then(path))?;
+        stage.growth.pass();
     }
     Ok(())
-}
-
-// Hands what is known to the halves of a cut.
-fn hand_on<K: Copy + Drop>(facts: &mut Vec<K>, outcome: &Outcome, known: K) -> Result<(), Memory>
-    ensures handed { OnOk result
-        (facts.new.items ≡ with_handed facts.old.items outcome.now known) }
-    ensures few { OnOk result (vec_len facts.new ≤ vec_len facts.old + 2) }
-{
-    match outcome {
-        Outcome::Cut { .. } => {
-            facts.push(known)?;
-            facts.push(known)?;
-            Ok(())
-        }
-        Outcome::Removed | Outcome::Inner { .. } | Outcome::Small { .. } => Ok(()),
-    }
 }

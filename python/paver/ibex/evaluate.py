@@ -288,6 +288,15 @@ class Evaluator:
             self.scope.notes.append(f"line {line}: sqrt {SQUARE_ROOT.format(name=name)}")
         return ("name", self.scope.roots[text])
 
+    def under_root(self, e: Expression) -> Term | None:
+        """The argument of an expression that is the square root of one that is not constant; None of every other."""
+        if e[0] != "apply" or e[2] != "sqrt" or len(e[3]) != 1 or self.scope.keeping:
+            return None
+        if "sqrt" in self.local or "sqrt" in self.scope.names or "sqrt" in self.scope.functions:
+            return None
+        argument = self.value(e[3][0])
+        return argument.terms[0] if argument.is_scalar and terms.value_of(argument.terms[0]) is None else None
+
     def called(self, line: int, name: str, arguments: Sequence[Array]) -> Array:
         function = self.scope.functions[name]
         if len(arguments) != len(function.parameters):

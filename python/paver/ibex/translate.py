@@ -10,9 +10,10 @@ from . import terms
 from .evaluate import Ends, Evaluator, Function, IntervalConstant, Scope, shape_of
 from .refusals import Overrun, Refusal, Work
 from .syntax import Constraint, Expression, Local, Parameter, read
-from .terms import Array, scalar
+from .terms import Array, Term, scalar
 
 GREATEST = 10 ** 37 - 1  # of the whole numbers of the profile
+TURNED = {"=": "=", "<=": ">=", ">=": "<=", "<": ">", ">": "<"}
 MOST = {"variables": 12, "constraints": 64, "functions": 64, "bytes": 65536}
 
 
@@ -152,9 +153,28 @@ class Translator:
         if relation == "=" and sides[0] is not None and sides[1] is None:
             self.member(evaluator, line, right, left)
             return
+        if self.squared(evaluator, line, left, relation, right):
+            return
         pairs = terms.by_entries(relation, evaluator.value(left), evaluator.value(right), line)
         for _, a, b in pairs.terms:
             self.constraints.append((line, f"{terms.text_of(a, line)} {relation} {terms.text_of(b, line)}"))
+
+    def squared(self, evaluator: Evaluator, line: int, left: Expression, relation: str, right: Expression) -> bool:
+        """Writes a relation with a square root alone on one side squared; False where none stands so. A variable for the root
+        would be bound by an equation, which leaves no inner box."""
+        root, other = left, right
+        argument = evaluator.under_root(left)
+        if argument is None:
+            root, other, relation = right, left, TURNED[relation]
+            argument = evaluator.under_root(right)
+        if argument is None:
+            return False
+        bound = evaluator.value(other)
+        if not bound.is_scalar:
+            return False
+        self.constraints += [(line, text) for text in squares(argument, relation, bound.terms[0], line)]
+        self.scope.notes.append(f"line {line}: the relation with the square root alone on one side is written squared")
+        return True
 
     def member(self, evaluator: Evaluator, line: int, e: Expression, domain: Expression) -> None:
         array = evaluator.value(e)
@@ -206,6 +226,20 @@ class Translator:
         notes += [note for note in self.scope.notes if note not in notes]
         head = ["// Written by `python3 -m paver from-ibex`.", *(f"// {note}" for note in notes)]
         return "\n".join([*head, *lines, "end"]) + "\n"
+
+
+def squares(argument: Term, relation: str, bound: Term, line: int) -> list[str]:
+    """The constraints that say how the root of an argument is related to a bound, without the root."""
+    a, b, square = (terms.text_of(term, line) for term in (argument, bound, ("^", bound, 2)))
+    value, least = terms.value_of(bound), ">" if relation == "<" else ">="
+    if relation in ("<=", "<", "="):
+        side = [] if relation == "=" else [f"{a} >= 0"]
+        known = value is not None and (value > 0 or value == 0 and least == ">=")
+        return [f"{a} {relation} {square}", *side, *([] if known else [f"{b} {least} 0"])]
+    if value is not None:
+        return [f"{a} {relation} {square}"] if value >= 0 else [f"{a} >= 0"]
+    rest, turned = (terms.text_of(term, line) for term in (("-", argument, ("^", bound, 2)), ("neg", bound)))
+    return [f"max({rest}, {turned}) {relation} 0", f"{a} >= 0"]
 
 
 def known_values(array: Array) -> list[Fraction] | None:

@@ -3,7 +3,7 @@ use crate::num::Operation::{self, Add, Div, Mul};
 use crate::num::Spelled;
 use pv_num::End::{self, Down, Up};
 
-pub(super) static CASES: [(Operation, Spelled, Spelled, End, Spelled); 432] = [
+pub(super) static CASES: [(Operation, Spelled, Spelled, End, Spelled); 440] = [
     (Add, (0, 0), (0, 0), Down, (0, 0)),
     (Mul, (0, 0), (0, 0), Down, (0, 0)),
     (Add, (0, 0), (1, 0), Up, (1, 0)),
@@ -1581,5 +1581,31 @@ pub(super) static CASES: [(Operation, Spelled, Spelled, End, Spelled); 432] = [
         (2973490348242584243, -10),
         Down,
         (-2305843009213693953, -62),
+    ),
+    (Mul, (1, -512), (1, -512), Down, (0, 0)),
+    (Mul, (1, -512), (1, -512), Up, (1, -512)),
+    (
+        Add,
+        (4611686018427387903, 450),
+        (4611686018427387903, 450),
+        Down,
+        (4611686018427387903, 450),
+    ),
+    (
+        Add,
+        (4611686018427387903, 450),
+        (4611686018427387903, 450),
+        Up,
+        (1, 999),
+    ),
+    (Add, (4611686018427387903, 0), (1, 0), Down, (1, 62)),
+    (Add, (4611686018427387903, 0), (1, 0), Up, (1, 62)),
+    (Add, (4611686018427387903, 0), (1, 1), Down, (1, 62)),
+    (
+        Add,
+        (4611686018427387903, 0),
+        (1, 1),
+        Up,
+        (2305843009213693953, 1),
     ),
 ];

@@ -1,4 +1,4 @@
-use Rattle.std.proofs.Common.{◌≡◌, ◌+◌, length}
+use Rattle.std.proofs.Common.{◌≡◌, ◌+◌, [], length}
 use Rattle.std.specs.Prelude.{reverse}
 use Rattle.pv_tree.specs.KnownLeaves.{AreKnown}
 use Rattle.pv_tree.specs.Trees.{Tree, Paves}
@@ -9,11 +9,12 @@ use Rattle.pv_workers.proofs.growing.grow_all.Given as goal
 
 abbrev pub invariant-loop-settled : goal.invariant-loop-settled
 invariant-loop-settled g l = record {
-  root : l.growth.root ≡ l.fn.growth.root;
+  root : l.grower.growth.root ≡ l.fn.grower.growth.root;
   scratch : length l.workspace.scratch ≡ length l.fn.workspace.scratch;
-  facts : AreKnown (g.S.KnowingSettler.knows l.settler) (reverse l.workspace.facts.items) l.growth.holes;
-  leaves : AreOpen l.growth;
-  stage : (opening : Tree) → Paves l.fn.growth.root opening → IsStage (g.S.Settler.settle_of l.settler) (g.S.Settler.depth_of l.settler) l.fn.growth.root opening l.fn.growth.tree
-      → IsStage (g.S.Settler.settle_of l.settler) (g.S.Settler.depth_of l.settler) l.growth.root opening l.growth.tree;
-  count : settled_in l.growth.tree ≡ settled_in l.fn.growth.tree + l.settled;
+  facts : AreKnown (g.S.KnowingSettler.knows l.settler) (reverse l.workspace.facts.items) l.grower.growth.holes;
+  at : l.grower.at ≡ [];
+  leaves : AreOpen l.grower.growth;
+  stage : (opening : Tree) → Paves l.fn.grower.growth.root opening → IsStage (g.S.Settler.settle_of l.settler) (g.S.Settler.depth_of l.settler) l.fn.grower.growth.root opening l.fn.grower.growth.tree
+      → IsStage (g.S.Settler.settle_of l.settler) (g.S.Settler.depth_of l.settler) l.grower.growth.root opening l.grower.growth.tree;
+  count : settled_in l.grower.growth.tree ≡ settled_in l.fn.grower.growth.tree + l.settled;
 }

@@ -36,7 +36,7 @@ loop-round-preserved g c =
           (c.learn_paved.ensures.stages o m (subst (λ (y : List Bounds). Paves y o) (sym same) c.dims-places.ensures.paving.paves)
           (subst (λ (y : List Bounds). IsStage rule depth y o m) (sym same) h.stage)
           (subst (λ (y : List Bounds). IsStage rule depth y m t) (sym n.root) n.stage));
-      count = more_parts c.part_of-nodes.result c.loop-round.left c.args.budget.nodes o m t n.paved h.count part.few (c.is_done.ensures.open c.if-is_done.false);
+      count = more_parts c.part_of-nodes.result c.loop-round.left c.args.budget.nodes o m t n.paved h.count part.few (c.is_closed.ensures.open c.if-is_closed.false);
       some = omega (arith, z);
       few = omega (arith, w, f, k);
       spent = omega (arith, u, v);
@@ -61,8 +61,8 @@ returns-then-left-eq0-clause-paved g c =
     let n = c.in_ok-next.ensures in
     last_part c.part_of-nodes.result c.loop-round.left c.args.budget.nodes c.args.opening.tree c.loop-round.paved.paving.tree c.in_ok-next.next.paving.tree n.paved c.loop-round.invariant.count c.part_of-nodes.ensures.few c.if-left-eq0.true
 
-pub returns-then-is_done-clause-stage : goal.returns-then-is_done-clause-stage
-returns-then-is_done-clause-stage g c =
+pub returns-then-is_closed-clause-stage : goal.returns-then-is_closed-clause-stage
+returns-then-is_closed-clause-stage g c =
     let s = c.args.settler.now in let rule = g.S.Settler.settle_of s in let depth = g.S.Settler.depth_of s in
     let b = c.args.opening.root in let o = c.args.opening.tree in
     let m = c.loop-round.paved.paving.tree in let t = c.in_ok-next.next.paving.tree in
@@ -73,10 +73,10 @@ returns-then-is_done-clause-stage g c =
     (subst (λ (y : List Bounds). IsStage rule depth y o m) (sym same) h.stage)
     (subst (λ (y : List Bounds). IsStage rule depth y m t) (sym n.root) n.stage))
 
-pub returns-then-is_done-clause-paved : goal.returns-then-is_done-clause-paved
-returns-then-is_done-clause-paved g c =
+pub returns-then-is_closed-clause-paved : goal.returns-then-is_closed-clause-paved
+returns-then-is_closed-clause-paved g c =
     let n = c.in_ok-next.ensures in
-    done_part c.part_of-nodes.result c.loop-round.left c.args.budget.nodes c.args.opening.tree c.loop-round.paved.paving.tree c.in_ok-next.next.paving.tree n.paved c.loop-round.invariant.count c.part_of-nodes.ensures.few (c.is_done.ensures.done c.if-is_done.true)
+    done_part c.part_of-nodes.result c.loop-round.left c.args.budget.nodes c.args.opening.tree c.loop-round.paved.paving.tree c.in_ok-next.next.paving.tree n.paved c.loop-round.invariant.count c.part_of-nodes.ensures.few (c.is_closed.ensures.closed c.if-is_closed.true)
 
 pub returns-clause-paved : goal.returns-clause-paved
 returns-clause-paved g c =

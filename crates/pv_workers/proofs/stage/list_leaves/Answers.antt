@@ -7,7 +7,8 @@ pub loop-path-preserved : goal.loop-path-preserved
 loop-path-preserved c =
     let l = c.loop-path in
     record {
+      at = l.invariant.at;
       root = ap (λ (x : Growing). x.root) c.pass.ensures ∙ l.invariant.root;
       tree = ap (λ (x : Growing). x.tree) c.pass.ensures ∙ l.invariant.tree;
-      listed = listed_more c.args.at l.stage c.pass.new.self c.in-Some.path c.then.result l.leaves.items c.push.new.self.items _ c.in-Some.ensures.next c.pass.ensures c.then.ensures c.in_ok-push.ensures.items l.invariant.listed;
+      listed = listed_more l.stage.at l.stage.growth c.pass.new.self c.in-Some.path c.then.result l.leaves.items c.push.new.self.items _ c.in-Some.ensures.next c.pass.ensures c.then.ensures c.in_ok-push.ensures.items l.invariant.listed;
     }

@@ -9,12 +9,12 @@ use Rattle.pv_workers.proofs.stage.Stager.grow_on.Given as goal
 
 abbrev pub invariant-loop-settled : goal.invariant-loop-settled
 invariant-loop-settled g l = record {
-  root : l.stage.root ≡ l.fn.stage.root;
-  stage : IsStageBelow g.N.Naming.rule g.N.Naming.depth l.stage.root (length l.self.at) l.stage.tree;
-  count : settled_in l.stage.tree ≡ l.settled;
-  facts : AreKnown (g.S.KnowingSettler.knows l.self.ruled.now.settler.now) (reverse l.workspace.facts.items) l.stage.holes;
+  root : l.stage.growth.root ≡ l.fn.stage.growth.root;
+  stage : IsStageBelow g.N.Naming.rule g.N.Naming.depth l.stage.growth.root (length l.self.at) l.stage.growth.tree;
+  count : settled_in l.stage.growth.tree ≡ l.settled;
+  facts : AreKnown (g.S.KnowingSettler.knows l.self.ruled.now.settler.now) (reverse l.workspace.facts.items) l.stage.growth.holes;
   few_facts : vec_len l.workspace.facts ≤ 17;
-  laid : AreLaid (full_of g.N.Naming.rule g.N.Naming.depth l.stage.root leaf (length l.self.at)) l.stage;
+  laid : AreLaid (full_of g.N.Naming.rule g.N.Naming.depth l.stage.growth.root leaf (length l.self.at)) l.stage.growth;
   places : length l.workspace.scratch ≡ g.N.Naming.dims;
-  tickets : l.workspace.tickets ≡ l.fn.workspace.tickets;
+  at : l.stage.at ≡ l.self.at;
 }
