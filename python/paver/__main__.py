@@ -366,7 +366,9 @@ def more_commands(commands: Commands) -> None:
                         "else all but one; --scale: scales for variables, --scale=FILE writes the text in them; --line: a "
                         f"refused system in one line, for editors. COMMAND is one of {', '.join(COMMANDS)}.")
     explained.add_argument("words", nargs=argparse.REMAINDER)
-    add_words(add("view", page_command))
+    shown = add("view", page_command)
+    add_words(shown)
+    strictly(shown)
     sweep_command.add_options(add("sweep", sweep_command.work))
     reported = add("report", report_of)
     reported.add_argument("system")

@@ -146,9 +146,9 @@ def page_of_text(canonical: str, pavings: list[Paving], title: str = "paving", s
     return View(page(system, source, [entry(paving, {}, UNKNOWN, f"paving {k}") for k, paving in enumerate(pavings)], title))
 
 
-def read_one(given: One, system: System, settings: dict[str, Any]) -> tuple[Paving, str, dict[str, Any]]:
+def read_one(given: One, system: System, settings: dict[str, Any], strict: bool = False) -> tuple[Paving, str, dict[str, Any]]:
     """A paving, its name and the settings under which its identity is to be compared: of a file, a Paving, or an Answer.
-    Nothing is compared here."""
+    Settings of a file are found, unless strict. Nothing is compared here."""
     if isinstance(given, Paving):
         return given, "paving", settings
     if isinstance(given, calls.Answer):
@@ -157,7 +157,8 @@ def read_one(given: One, system: System, settings: dict[str, Any]) -> tuple[Pavi
         if paving.identity is None:  # it was printed: it is that of the answer's own system
             paving.identity = given.known.identity(**known)
         return paving, given.command, {**settings, **known}
-    known, words = found_settings(system, beside.identity_of(given), beside.with_kept([given], settings))
+    known = beside.with_kept([given], settings)
+    known, words = (known, None) if strict else found_settings(system, beside.identity_of(given), known)
     if words:
         warnings.warn(taken(os.fspath(given), words), stacklevel=3)
     return Paving.read(given, system=system, identity=None), Path(given).name, known
@@ -182,15 +183,15 @@ def run_one(path: Path, system: System, settings: Mapping[str, Any], centered: b
 
 
 def view(system: str | Path, pavings: Pavings = None, *, settings: list[dict[str, Any]] | None = None, title: str | None = None,
-         unchecked: bool = False, centered: bool = False, program: str | None = None, path: PathLike = None,
-         **options: object) -> View:
+         unchecked: bool = False, strict: bool = False, centered: bool = False, program: str | None = None,
+         path: PathLike = None, **options: object) -> View:
     """A page that shows pavings of a system: stored files, databases of campaigns, Pavings or Answers, one or several; with
     none the system is run (or run by centered forms).
 
     The options are eps, depth, bisect, contract and form, for all pavings; `settings` is a list of such dicts, one a paving.
-    What isn't given is that which was kept beside a file. A paving with another identity is refused by PavingError, unless
-    `unchecked` says that it is this system's. `path` is drawn: one of Paving.path, or the file of `path --csv`. boxes, workers
-    and limit are for the run."""
+    What isn't given is that which was kept beside a file. Settings near at hand are found, unless `strict`, and a warning names
+    them. A paving with another identity is refused by PavingError, unless `unchecked` says that it is this system's. `path` is
+    drawn: one of Paving.path, or the file of `path --csv`. boxes, workers and limit are for the run."""
     name_of_system, known = Path(system), calls.check(system, program=program)
     way = rows_of_path(path, known.names)
     common = {name: options.pop(name) for name in beside.KEPT_SETTINGS if name in options}
@@ -208,7 +209,7 @@ def view(system: str | Path, pavings: Pavings = None, *, settings: list[dict[str
         raise ValueError("a paving at least, and as many settings as pavings")
     entries = []
     for one, own in zip(given, settings or [{}] * len(given)):
-        paving, name, of_it = read_one(one, known, {**common, **own})
+        paving, name, of_it = read_one(one, known, {**common, **own}, strict)
         named = named_settings(of_it)
         entries.append(entry(paving, named, command_of(paving, known, named, of_it.get("form"), unchecked, name), name))
     return View(page(known, source, entries, title, way))
@@ -231,7 +232,8 @@ def view_command(arguments: argparse.Namespace) -> str:
     settings = settings_of_words(arguments, max(1, len(arguments.paving)))
     how: dict[str, Any] = {"title": arguments.title, "program": arguments.program, "path": arguments.path}
     if arguments.paving:
-        made = view(arguments.system, arguments.paving, settings=settings, unchecked=arguments.unchecked, **how)
+        made = view(arguments.system, arguments.paving, settings=settings, unchecked=arguments.unchecked,
+                    strict=arguments.strict, **how)
     else:
         how.update(settings[0])
         how.update({name: getattr(arguments, name) for name in OF_RUN if getattr(arguments, name) is not None})

@@ -38,7 +38,7 @@ swept: paver.Sweep = paver.sweep("s.mbx", "folder", eps=0.5, shares=8, engine=Th
 print(swept.counts["open"], swept.out.name, swept.hours, swept.greatest["seconds"], swept.idle, swept.paving().hull())
 asked: paver.Control = paver.control("loop.txt", theorems=False)
 print(asked.text, asked.for_all, asked.constraints[0].origin, paver.control_text("stable").polynomial)
-page: paver.View = paver.view("s.mbx", ["f", paving], eps=0.5, form="plain", unchecked=True)
+page: paver.View = paver.view("s.mbx", ["f", paving], eps=0.5, form="plain", unchecked=True, strict=True)
 page.save("page.html")
 plane: paver.Projection = paver.project(paving, "x", 1)
 print(plane.counts(), plane.areas()["some"], plane.where((1, 0)), plane.svg(), plane.page().html, plane.numpy("none"))

@@ -624,8 +624,16 @@ class Files(unittest.TestCase):
 
     # ---- what is refused
 
+    def command(self, *words: Any) -> tuple[int, str, list[str]]:
+        """The status of `view` with these words, the first letters of what it prints, and the lines that it says beside."""
+        done = subprocess.run([sys.executable, "-m", "paver", "view", *map(str, words)],
+                              env={**os.environ, "PYTHONPATH": "python"}, cwd=TOP, capture_output=True, text=True,
+                              timeout=SECONDS, check=False)
+        return done.returncode, done.stdout[:15], done.stderr.splitlines()
+
     def test_refused(self) -> None:
-        """A paving of another system or of other settings is refused, and nothing is written; so are broken trees."""
+        """A paving of another system is refused, and nothing is written; so are broken trees, and numbers of settings that are
+        not those of pavings."""
         ring, discs = (TOP / "examples" / f"{name}.mbx" for name in ("ring", "two_discs"))
         with tempfile.TemporaryDirectory() as folder:
             stored, printed, broken = (Path(folder) / name for name in ("stored", "printed", "broken"))
@@ -633,19 +641,36 @@ class Files(unittest.TestCase):
             printed.write_text(paver.run(ring, eps="0.5").text)
             broken.write_text(stored.read_text().replace("C 0 0:0", "C 0 1:9", 1))
             calls: list[tuple[list[Any], int]] = [
-                ([ring, stored, "--eps", "0.5"], 0), ([ring, stored], 0), ([ring, stored, "--eps", "1"], 2),
+                ([ring, stored, "--eps", "0.5"], 0), ([ring, stored], 0), ([ring, stored, "--strict"], 0),
                 ([discs, stored, "--eps", "0.5"], 2), ([discs, stored], 2),
                 ([ring, printed, "--eps", "0.5"], 2), ([ring, broken, "--eps", "0.5"], 2),
-                ([ring, printed, "--unchecked"], 0),
-                ([ring, stored, stored, "--eps", "0.5", "--eps", "1"], 2),
+                ([ring, printed, "--unchecked"], 0), ([ring, stored, "--eps", "0.5", "--eps", "1"], 2),
                 ([ring, stored, stored, "--eps", "0.5"], 0), ([ring, folder], 2), (["no file"], 2)]
             for words, status in calls:
-                done = subprocess.run([sys.executable, "-m", "paver", "view", *map(str, words)],
-                                      env={**os.environ, "PYTHONPATH": "python"}, cwd=TOP, capture_output=True, text=True,
-                                      timeout=SECONDS, check=False)
-                self.assertEqual(done.returncode, status, (words, done.returncode, done.stderr))
-                self.assertEqual((done.stdout[:15], done.stderr.count("\n")),
-                                 ("<!DOCTYPE html>", 0) if status == 0 else ("", 1), words)
+                with self.subTest(words):
+                    found, begun, said = self.command(*words)
+                    self.assertEqual((found, begun, len(said)), (status, *(("<!DOCTYPE html>", 0) if status == 0 else ("", 1))))
+
+    def test_found_settings(self) -> None:
+        """Settings that a file has are taken, and a line says so of each file; `--strict` refuses them and writes no page."""
+        ring = TOP / "examples" / "ring.mbx"
+        with tempfile.TemporaryDirectory() as folder:
+            stored, other = Path(folder, "stored"), Path(folder, "other")
+            paver.run(ring, eps="0.5", out=stored)
+            other.write_bytes(stored.read_bytes())
+            note = "note: {} is this system's with --eps 0.5: that is taken (--strict refuses it)"
+            self.assertEqual(self.command(ring, stored, "--eps", "1")[0::2], (0, [note.format(stored)]))
+            Path(f"{stored}.json").unlink()  # so that nothing tells its settings
+            calls: list[tuple[list[Any], list[Path]]] = [
+                ([stored], [stored]), ([stored, "--eps", "1"], [stored]), ([stored, stored], [stored]),
+                ([stored, stored, "--eps", "0.5", "--eps", "1"], [stored]), ([stored, other, "--eps", "1"], [stored, other])]
+            for words, names in calls:
+                with self.subTest(words):
+                    self.assertEqual(self.command(ring, *words), (0, "<!DOCTYPE html>", [*map(note.format, names)]))
+                    status, begun, said = self.command(ring, *words, "--strict")
+                    self.assertEqual((status, begun, len(said)), (2, "", 1))
+                    self.assertIn("another identity than this system", said[0])
+            self.assertEqual(self.command(ring, stored, "--eps", "0.5", "--strict"), (0, "<!DOCTYPE html>", []))
 
 
 if __name__ == "__main__":
