@@ -13,7 +13,10 @@ use Rattle.pv_hc4.specs.declared.node.Node.{Node}
 use Rattle.pv_hc4.specs.declared.node.Node.TheVariants.{One, Two}
 use Rattle.pv_hc4.specs.Graphs.{AreValues}
 use Rattle.pv_hc4.specs.Chain.{chain, at, Gives}
-use Rattle.pv_hc4.specs.Forward.{forward_of}
+use Rattle.pv_hc4.specs.Forward.{binary_of, forward_of}
+use Rattle.pv_hc4.specs.Resting.{RestsAt}
+use Rattle.pv_project.specs.declared.resting.Rest.{Rest}
+use Rattle.pv_project.specs.Rests.{Rests}
 use Rattle.pv_hc4.specs.Revise.{back_1, back_2, Target, joined, targets_of, applied, went}
 use Rattle.pv_hc4.specs.Nodes.{term_at, node_term, terms, AreOrdered, ReadsBelow}
 use Rattle.pv_hc4.proofs.Growth.{term_step}
@@ -86,6 +89,26 @@ two_read b s ns vs d k op a c e z v w o ordered av h n_is v_is w_is o_is =
     ap (λ t. went b s t z) (term_read ns d k (Two op a c) e ordered h n_is)
     ∙ two_gives b s op (term_at (terms ns) a) (term_at (terms ns) c) z v w o
     (value_read b ns vs a v av inside_a v_is) (value_read b ns vs c w av inside_c w_is) o_is
+
+-- the node's own interval is its operation's
+own_read : (b : List Bounds) (ns : List Node) (vs : List Bounds) (d k : ℕ) (op : BinaryOp) (a c : ℕ) (e : Node) (v w o : Bounds) → AreOrdered ns d → AreValues b ns vs → k < length ns → get_or ns k e ≡ Two op a c → v ≡ get_or vs a v → w ≡ get_or vs c w → o ≡ get_or vs k o → binary_of op v w ≡ Some o
+own_read b ns vs d k op a c e v w o ordered av h n_is v_is w_is o_is =
+    let under : (a < k) × (c < k) = below_is ns d k (Two op a c) e ordered h n_is in
+    let inside_a : a < length ns = omega (arith, under.0) in
+    let inside_c : c < length ns = omega (arith, under.1) in
+    let t = term_at (terms ns) a in let u = term_at (terms ns) c in
+    sym (ap (λ x. chain x (λ x. chain (forward_of b u) (λ y. binary_of op x y))) (value_read b ns vs a v av inside_a v_is)
+    ∙ ap (λ y. chain y (λ y. binary_of op v y)) (value_read b ns vs c w av inside_c w_is))
+    ∙ sym (ap (λ t. forward_of b t) (term_read ns d k (Two op a c) e ordered h n_is))
+    ∙ value_read b ns vs k o av h o_is
+
+-- an end of the node's own interval is one of its operation's
+pub rests_read : (b : List Bounds) (ns : List Node) (vs : List Bounds) (d k : ℕ) (op : BinaryOp) (a c : ℕ) (e : Node) (v w o : Bounds) (r : Rest) (z : Bounds) → AreOrdered ns d → AreValues b ns vs → k < length ns → get_or ns k e ≡ Two op a c → v ≡ get_or vs a v → w ≡ get_or vs c w → o ≡ get_or vs k o → Rests r z o → RestsAt op r z v w
+rests_read b ns vs d k op a c e v w o r z ordered av h n_is v_is w_is o_is rest =
+    λ own q. subst (Rests r z) (some_is o own (sym (own_read b ns vs d k op a c e v w o ordered av h n_is v_is w_is o_is) ∙ q)) rest
+  where
+    some_is : (x y : Bounds) → Some x ≡ Some y → x ≡ y
+    some_is x y g = cc
 
 -- the first part went, and then the second
 pub second_gives : (first second : Bool) (r new : List Bounds) (o : Option (List Bounds)) (f : List Bounds → Option (List Bounds)) → first ≡ true → Gives first r o → Gives second new (f r) → Gives second new (chain o f)

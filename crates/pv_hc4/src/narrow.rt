@@ -6,14 +6,16 @@ ghost use Rattle.pv_hc4.specs.Revise.{back_1, back_2, went, applied};
 ghost use Rattle.pv_expr.specs.Systems.{IsUnary};
 ghost use Rattle.pv_hc4.specs.Nodes.{AreOrdered, terms, term_at};
 ghost use Rattle.pv_hc4.specs.Graphs.{AreValues};
-ghost use Rattle.pv_hc4.specs.Resting.{MayRest};
+ghost use Rattle.pv_hc4.specs.Resting.{MayRest, RestsAt};
+ghost use Rattle.pv_project.specs.Rests.{Rests};
 
 use crate::node::Node;
 use pv_box::IBox;
 use pv_expr::{BinaryOp, UnaryOp};
 use pv_interval::Interval;
 use pv_project::{
-    back_abs, back_add, back_div, back_max, back_min, back_mul, back_neg, back_pow, back_sub,
+    Rest, back_abs, back_add_resting, back_div, back_max, back_min, back_mul, back_neg, back_pow,
+    back_sub_resting,
 };
 
 fn back_unary(op: UnaryOp, target: Interval, x: Interval) -> Option<Interval>
@@ -27,17 +29,20 @@ fn back_unary(op: UnaryOp, target: Interval, x: Interval) -> Option<Interval>
     }
 }
 
+// `rest` is an end of the target that is the one of the node's own interval.
 fn back_binary(
     op: BinaryOp,
     target: Interval,
     x: Interval,
     y: Interval,
+    rest: Rest,
 ) -> Option<(Interval, Interval)>
+    requires { RestsAt op rest target x y }
     ensures { result ≡ back_2 op target x y }
 {
     match op {
-        BinaryOp::Add => back_add(target, x, y),
-        BinaryOp::Sub => back_sub(target, x, y),
+        BinaryOp::Add => back_add_resting(target, x, y, rest),
+        BinaryOp::Sub => back_sub_resting(target, x, y, rest),
         BinaryOp::Mul => back_mul(target, x, y),
         BinaryOp::Div => back_div(target, x, y),
         BinaryOp::Min => back_min(target, x, y),
@@ -67,6 +72,20 @@ fn is_left(rests: bool, target: Interval, own: Interval) -> bool
     ensures { IsTrue result → IsTrue rests × (target ≡ own) }
 {
     rests && target == own
+}
+
+// An end of a target that is the one of the node's own interval, if there is one.
+#[inline]
+fn rest_of(target: Interval, own: Interval) -> Rest
+    ensures { Rests result target own }
+{
+    if target.lo() == own.lo() {
+        Rest::Lower
+    } else if target.hi() == own.hi() {
+        Rest::Upper
+    } else {
+        Rest::Neither
+    }
 }
 
 // Narrows the box by all occurrences below a node; false where a step is empty, and then the box is
@@ -101,7 +120,7 @@ pub(crate) fn narrow(
             None => false,
         },
         Node::Two(op, a, b) => {
-            match back_binary(op, target, values[a], values[b]) {
+            match back_binary(op, target, values[a], values[b], rest_of(target, values[at])) {
                 Some(both) => {
                     narrow(nodes, values, rests, a, both.0, entry, bx)
                         && narrow(nodes, values, rests, b, both.1, entry, bx)

@@ -1,4 +1,5 @@
 pub mod Meets
+pub mod HalfRests
 pub mod Same
 pub mod Kept
 pub mod Roots

@@ -131,14 +131,14 @@ pub(crate) fn meet_between(x: Interval, lo: Num, hi: Num) -> Option<Interval>
 }
 
 #[inline]
-fn lesser(a: Num, b: Num) -> Num
+pub(crate) fn lesser(a: Num, b: Num) -> Num
     ensures { result ≡ lesser_of a b }
 {
     if a <= b { a } else { b }
 }
 
 #[inline]
-fn greater(a: Num, b: Num) -> Num
+pub(crate) fn greater(a: Num, b: Num) -> Num
     ensures { result ≡ greater_of a b }
 {
     if a <= b { b } else { a }
