@@ -1,4 +1,4 @@
--- Where an end of a target is the one of the operation's own interval, the arguments' ends that gave it stay.
+-- If an end of a target is the one of the operation's own interval, the arguments' ends that gave it stay.
 use Rattle.std.proofs.Common.{◌≡◌, ◌≢◌, refl, arith, sym, ◌∙◌, ap, subst, cond}
 use Rattle.std.specs.Prelude.{IsTrue, Bool, true, false, ℤ, pos, ◌+ℤ◌, ◌*ℤ◌, ◌≤ℤ◌, Option, Some, None}
 use Rattle.std.proofs.Math.IntN.{+ℤ_comm, neg_ℤ-neg_ℤ}
@@ -52,7 +52,7 @@ up_twice a b d (Fin c) h k = by_rounded (rounded Up (c +ℤ neg_ℤ d) 1) (round
     by_rounded PosInf j = refl
 up_twice a b d PosInf h k = refl
 
--- what is left of h where a less b, rounded down, is taken off, is at least b
+-- h less what a less b, rounded down, is: at least b, if a is at most h
 down_off : (a b h : ℤ) (r : Extended) → a ≤ℤ h → IsDown (a +ℤ neg_ℤ b) 1 r → IsTrue (le (Fin b) (add_of Up (Fin h) (neg_of r)))
 down_off a b h NegInf g k = refl
 down_off a b h (Fin c) g k = by_rounded (rounded Up (h +ℤ neg_ℤ c) 1) (rounded-is Up (h +ℤ neg_ℤ c) 1 (omega arith))
@@ -99,7 +99,7 @@ pos_up NegInf = refl
 pos_up (Fin c) = refl
 pos_up PosInf = refl
 
--- a and b added and d taken off: at most a, where b is at most d
+-- a and b added and d taken off: at most a, if b is at most d
 pub low_rests : (a b d : Extended) → a ≢ PosInf → b ≢ PosInf → d ≢ NegInf → IsTrue (le b d) → IsTrue (le (sub_of Down (add_of Down a b) d) a)
 low_rests NegInf b d p q s h = ap (λ e. le (sub_of Down e d) NegInf) (neg_down b) ∙ ap (λ e. le e NegInf) (neg_down (neg_of d))
 low_rests (Fin a) NegInf d p q s h = ap (λ e. le e (Fin a)) (neg_down (neg_of d))
@@ -118,7 +118,7 @@ high_rests (Fin a) (Fin b) NegInf p q s h = ap (λ e. le (Fin a) e) (more_up (ad
 high_rests (Fin a) NegInf d p q s h = absurd (q refl)
 high_rests NegInf b d p q s h = absurd (p refl)
 
--- h less what a less b is: at least b, where a is at most h
+-- h less what a less b is: at least b, if a is at most h
 pub less_rests : (a b h : Extended) → a ≢ PosInf → b ≢ NegInf → h ≢ NegInf → IsTrue (le a h) → IsTrue (le b (sub_of Up h (sub_of Down a b)))
 less_rests NegInf b h p q s g = ap (λ e. le b (sub_of Up h e)) (neg_down (neg_of b)) ∙ ap (λ e. le b e) (more_up h) ∙ top b
   where

@@ -1,4 +1,4 @@
--- Projections where an end of the target is the one of the operation's own interval.
+-- Projections, if an end of the target is the one of the operation's own interval.
 use Rattle.std.specs.Prelude.{◌≡◌, Option}
 use Rattle.pv_num.specs.Extended.{Extended}
 use Rattle.pv_num.specs.Order.{lesser, greater}
@@ -22,7 +22,7 @@ up_to_of x hi = interval_from x.lo (lesser x.hi hi)
 abbrev pub from_of : Bounds → Extended → Option Bounds
 from_of x lo = interval_from (greater x.lo lo) x.hi
 
--- both arguments where the lower end of z rests, and where the upper one does
+-- both arguments if the lower end of z rests, and if the upper one does
 unfoldable pub sum_below_of : Bounds → Bounds → Bounds → Option (Bounds × Bounds)
 sum_below_of z x y = narrowed (up_to_of x (sub_of Up z.hi y.lo)) (λ x'. up_to_of y (sub_of Up z.hi x'.lo))
 

@@ -1,5 +1,5 @@
-//! Projections where an end of the target is the one of the operation's own interval: the ends of
-//! the arguments that gave it stay, and are not worked out.
+//! Sums and differences, if an end of the target is the one of the operation's own interval: the ends
+//! of the arguments that gave it stay, and are not worked out.
 ghost use Rattle.std.specs.Prelude.{◌≡◌};
 ghost use Rattle.pv_interval.specs.Bounds.{IsInterval};
 ghost use Rattle.pv_interval.specs.Tables.{sum_of, difference_of};
@@ -11,16 +11,18 @@ use crate::ring::{back_add, back_sub};
 use pv_interval::Interval;
 use pv_num::{End, Num};
 
-/// An end of a target that is known to be the one of the operation's own interval.
+/// The end of a target that is known to be the one of the operation's own interval.
 #[derive(Clone, Copy, Debug, PartialEq, Eq)]
 pub enum Rest {
+    /// None is known.
     Neither,
+    /// The lower one.
     Lower,
+    /// The upper one.
     Upper,
 }
 
-/// What `back_add` answers, by a shorter way where an end of `z` is known to be the one of `x` plus
-/// `y`.
+/// What `back_add` answers, by a shorter way if an end of `z` is known to be the one of `x` plus `y`.
 #[inline]
 pub fn back_add_resting(
     z: Interval,
@@ -62,8 +64,7 @@ fn sum_above(z: Interval, x: Interval, y: Interval) -> Option<(Interval, Interva
     Some((left, right))
 }
 
-/// What `back_sub` answers, by a shorter way where an end of `z` is known to be the one of `x` minus
-/// `y`.
+/// What `back_sub` answers, by a shorter way if an end of `z` is known to be the one of `x` minus `y`.
 #[inline]
 pub fn back_sub_resting(
     z: Interval,

@@ -2,7 +2,8 @@
 use pv_interval::Interval;
 use pv_num::Num;
 use pv_project::{
-    back_abs, back_add, back_div, back_max, back_min, back_mul, back_neg, back_pow, back_sub,
+    Rest, back_abs, back_add, back_add_resting, back_div, back_max, back_min, back_mul, back_neg,
+    back_pow, back_sub, back_sub_resting,
 };
 
 mod vectors;
@@ -96,5 +97,71 @@ fn pair_cases(rt: HostRuntime) {
 fn single_cases(rt: HostRuntime) {
     for (i, case) in vectors::SINGLES.iter().enumerate() {
         assert_eq!(rt; single_holds(case), Some(true), "single {i}");
+    }
+}
+
+// `back_add` by the end of `z` that is the one of the sum.
+fn add_resting(z: Interval, x: Interval, y: Interval) -> Option<(Interval, Interval)> {
+    let own = x.add(y);
+    if z.lo() == own.lo() {
+        back_add_resting(z, x, y, Rest::Lower)
+    } else if z.hi() == own.hi() {
+        back_add_resting(z, x, y, Rest::Upper)
+    } else {
+        back_add_resting(z, x, y, Rest::Neither)
+    }
+}
+
+// `back_sub` by the end of `z` that is the one of the difference.
+fn sub_resting(z: Interval, x: Interval, y: Interval) -> Option<(Interval, Interval)> {
+    let own = x.sub(y);
+    if z.lo() == own.lo() {
+        back_sub_resting(z, x, y, Rest::Lower)
+    } else if z.hi() == own.hi() {
+        back_sub_resting(z, x, y, Rest::Upper)
+    } else {
+        back_sub_resting(z, x, y, Rest::Neither)
+    }
+}
+
+// A target for [0, 8] and [1, 9], and what is left of them.
+type Target = ((i64, i64), (i64, i64), (i64, i64));
+
+// The lower end rests, the upper one, both, neither.
+static SUMS: [Target; 4] = [
+    ((1, 3), (0, 2), (1, 3)),
+    ((14, 17), (5, 8), (6, 9)),
+    ((1, 17), (0, 8), (1, 9)),
+    ((2, 4), (0, 3), (1, 4)),
+];
+
+static DIFFERENCES: [Target; 4] = [
+    ((-9, -6), (0, 3), (6, 9)),
+    ((4, 7), (5, 8), (1, 4)),
+    ((-9, 7), (0, 8), (1, 9)),
+    ((-1, 1), (0, 8), (1, 9)),
+];
+
+fn whole((lo, hi): (i64, i64)) -> Option<Interval> {
+    interval(((lo, 0), (hi, 0)))
+}
+
+fn sum_holds(case: &Target) -> Option<bool> {
+    let found = add_resting(whole(case.0)?, whole((0, 8))?, whole((1, 9))?);
+    Some(found == Some((whole(case.1)?, whole(case.2)?)))
+}
+
+fn difference_holds(case: &Target) -> Option<bool> {
+    let found = sub_resting(whole(case.0)?, whole((0, 8))?, whole((1, 9))?);
+    Some(found == Some((whole(case.1)?, whole(case.2)?)))
+}
+
+#[test]
+fn resting_cases(rt: HostRuntime) {
+    for (i, case) in SUMS.iter().enumerate() {
+        assert_eq!(rt; sum_holds(case), Some(true), "sum {i}");
+    }
+    for (i, case) in DIFFERENCES.iter().enumerate() {
+        assert_eq!(rt; difference_holds(case), Some(true), "difference {i}");
     }
 }
