@@ -1,5 +1,5 @@
-//! Sums and differences, if an end of the target is the one of the operation's own interval: the ends
-//! of the arguments that gave it stay, and are not worked out.
+//! Sums and differences, if an end of the target is the one of the operation's own interval: the
+//! ends of the arguments that gave it stay, and are not worked out.
 ghost use Rattle.std.specs.Prelude.{◌≡◌};
 ghost use Rattle.pv_interval.specs.Bounds.{IsInterval};
 ghost use Rattle.pv_interval.specs.Tables.{sum_of, difference_of};
@@ -22,7 +22,7 @@ pub enum Rest {
     Upper,
 }
 
-/// What `back_add` answers, by a shorter way if an end of `z` is known to be the one of `x` plus `y`.
+/// What `back_add` answers, by a shorter way if an end of `z` is the one of `x` plus `y`.
 #[inline]
 pub fn back_add_resting(
     z: Interval,
@@ -64,7 +64,7 @@ fn sum_above(z: Interval, x: Interval, y: Interval) -> Option<(Interval, Interva
     Some((left, right))
 }
 
-/// What `back_sub` answers, by a shorter way if an end of `z` is known to be the one of `x` minus `y`.
+/// What `back_sub` answers, by a shorter way if an end of `z` is the one of `x` minus `y`.
 #[inline]
 pub fn back_sub_resting(
     z: Interval,
