@@ -1,4 +1,4 @@
-"""Tests that each runner of the folder is run by `make test`, by itself or as a part of `test_python`.
+"""Tests that each runner of the folder is run by `make test`.
 
     python3 -m tests.runners.listed
 """
@@ -7,7 +7,6 @@ from __future__ import annotations
 import unittest
 
 from tests import suite
-from tests.runners import test_python
 from tests.runners.running import TOP, main
 
 FOLDER = TOP / "tests" / "runners"
@@ -17,11 +16,10 @@ class Listed(unittest.TestCase):
     """The runners of the folder and those that are run."""
 
     def test_runners(self) -> None:
-        """Each module is run once, by itself or by `test_python`, or is shared by runners; and each name has its module."""
+        """Each module is run once, or is shared by runners; and each name has its module."""
         listed = [*suite.SIDE_BY_SIDE, *suite.ALONE, *suite.SHARED]
-        packages = [module.__name__.rpartition(".")[2] for module in test_python.MODULES]
         there = {file.stem for file in FOLDER.glob("*.py")} - {"__init__"}
-        self.assertEqual(sorted([*listed, *packages]), sorted(there))
+        self.assertEqual(sorted(listed), sorted(there))
 
 
 if __name__ == "__main__":

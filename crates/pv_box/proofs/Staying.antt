@@ -1,6 +1,6 @@
 -- An end that is no better than the best so far changes nothing, whether or not it counts.
 use Rattle.std.proofs.Common.{◌≡◌, refl, ap}
-use Rattle.std.specs.Prelude.{IsTrue, Option, Some, Bool, true, false}
+use Rattle.std.specs.Prelude.{IsTrue, Some, Bool, true, false}
 use Rattle.pv_num.specs.Extended.{Extended}
 use Rattle.pv_num.specs.Order.{le}
 use Rattle.pv_interval.proofs.Choices.{lesser_second, greater_second}

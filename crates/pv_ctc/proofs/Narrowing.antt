@@ -3,6 +3,7 @@ use Rattle.std.proofs.Common.{◌≡◌, ◌≢◌, ℕ, zero, suc, ◌+◌, ◌
 use Rattle.std.specs.Prelude.{Option, Some, None, map}
 use Rattle.pv_num.proofs.Orders.{le-antisym}
 use Rattle.pv_interval.specs.Bounds.{Bounds, everything}
+use Rattle.pv_interval.proofs.Alike.{same_bounds}
 use Rattle.pv_box.specs.Boxes.{hull_boxes}
 use Rattle.pv_box.specs.QHull as q
 use Rattle.pv_hc4.specs.Revise.{Sides, revised}
@@ -84,9 +85,6 @@ mutual
   effects_lie : (ss : List Sides) (ps : Plans) → AllLie (effects ss ps)
   effects_lie ss no_plan = tt
   effects_lie ss (plan_and p ps) = (contract-lies ss p, effects_lie ss ps)
-
-pub same_bounds : (x y : Bounds) → x.lo ≡ y.lo → x.hi ≡ y.hi → x ≡ y
-same_bounds x y e f = ap (λ l. record { lo = l; hi = x.hi }) e ∙ ap (λ h. record { lo = y.lo; hi = h }) f
 
 pub within_antisym : (c b : List Bounds) → AreWithin c b → AreWithin b c → c ≡ b
 within_antisym [] [] h k = refl

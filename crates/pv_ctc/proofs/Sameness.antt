@@ -9,7 +9,7 @@ use Rattle.pv_hc4.specs.Revise.{Sides}
 use Rattle.pv_ctc.specs.Revisions.{same_interval, same_box, same_places}
 use Rattle.pv_ctc.specs.Uses.{AreUses, AreAlikeFor, has_variable}
 use Rattle.pv_ctc.proofs.Marking.{beyond, at_take}
-use Rattle.pv_ctc.proofs.Narrowing.{same_bounds}
+use Rattle.pv_interval.proofs.Alike.{same_bounds}
 
 both : (p r : Bool) → (p && r) ≡ true → (p ≡ true) × (r ≡ true)
 both true r h = (refl, h)

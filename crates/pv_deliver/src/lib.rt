@@ -1,4 +1,4 @@
-//! What comes of a command is stored and printed, and what ends one early is told.
+//! The last step of a command: it stores and prints what came of it, or says why it ended early.
 #![tactic(auto)]
 
 pub mod deliver;

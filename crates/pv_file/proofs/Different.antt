@@ -25,7 +25,7 @@ use Rattle.pv_file.specs.Readings.{IsFree, TextsDiffer, OneIdentity}
 use Rattle.pv_file.specs.Words.{IsKeptOf, end_text, part_text}
 use Rattle.pv_file.specs.Reading.{IsRightNode}
 use Rattle.pv_file.proofs.Bytes.{split_once, tails_same, same_words}
-use Rattle.pv_file.proofs.Places.{same_bounds}
+use Rattle.pv_interval.proofs.Alike.{same_bounds}
 use Rattle.pv_file.proofs.Numbers.{number_plain, end_text_plain, decimal_plain, no_mark}
 use Rattle.pv_file.proofs.Ends.{kept_step, kept_ends}
 use Rattle.pv_file.proofs.Rights.{kept_inner, kept_small, kept_cut, few_places, line_inner, line_small, line_cut}

@@ -89,6 +89,3 @@ kept_from (old ∷ b) [] w i n = absurd w
 kept_from [] (x ∷ xs) w i n = absurd w
 kept_from (old ∷ b) (x ∷ xs) w i n =
     (record { low = w.0; high = w.1; interval = first_of IsInterval x xs i; numbers = n.0 }, kept_from b xs w.2 (others_of IsInterval x xs i) n.1)
-
-pub same_bounds : (x y : Bounds) → x.lo ≡ y.lo → x.hi ≡ y.hi → x ≡ y
-same_bounds x y e f = ap (λ (l : Extended). record { lo = l; hi = x.hi }) e ∙ ap (λ (h : Extended). record { lo = y.lo; hi = h }) f

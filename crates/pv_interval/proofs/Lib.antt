@@ -1,6 +1,7 @@
 pub mod Integers
 pub mod Products
 pub mod Ends
+pub mod Alike
 pub mod Rounds
 pub mod Values
 pub mod Choices

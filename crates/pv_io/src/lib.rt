@@ -1,8 +1,8 @@
 //! The outside as two traits: a sink that takes bytes, and a folder of named files.
 //!
-//! What may go wrong outside is counted: an answer `Failed` comes only where the count of faults
-//! rose in that call. Those in memory tell their contents and can be made to fail at chosen calls.
-//! The real ones tell no contents.
+//! Faults of the outside are counted: a call answers `Failed` only if the count rose in it. Sinks
+//! and folders in memory show their contents and can be made to fail at chosen calls. The real ones
+//! show no contents.
 #![tactic(auto)]
 
 mod folder;

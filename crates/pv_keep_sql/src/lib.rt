@@ -2,9 +2,9 @@
 //!
 //! A database has a strict table `head` with one row, the campaign's identity as bytes, and a
 //! strict table `node` with the digits of each settled node's path, none for the root, and its
-//! line. So the order of the text keys is preorder. What a file holds is told to no caller: that
-//! these keepers keep what they are given is for tests to show. That each refusal is counted unless
-//! memory was wanting is proved.
+//! line. So the order of the text keys is preorder. No clause speaks of what a file holds: tests
+//! show that these keepers keep what they are given. It is proved that each refusal is counted,
+//! unless memory ran out.
 #![tactic(auto)]
 
 mod connection_keeper;

@@ -1,7 +1,7 @@
 //! The least value of an expression over a solution set: a bound below it, and a point of the set
 //! with a bound above the value there.
 //!
-//! The box is paved, leaf by leaf, where the expression may be as low as at the best point so far.
+//! Leaf by leaf, the search cuts what may hold a lower value than the best point so far.
 //! This is branch and bound with interval bounds (Moore, "Interval Analysis", 1966; Hansen, "Global
 //! Optimization Using Interval Analysis", 1992).
 #![tactic(auto)]

@@ -1,4 +1,4 @@
-//! Projections: what the arguments of an operation can be where its result lies in a given
+//! Projections: what the arguments of an operation can be if its result lies in a given
 //! interval, the step down of HC4-revise.
 #![tactic(auto)]
 

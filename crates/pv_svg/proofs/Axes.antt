@@ -10,7 +10,7 @@ use Rattle.pv_num.specs.Grid.{unit, IsGrid}
 use Rattle.pv_num.specs.Order.{order_of, le}
 use Rattle.pv_num.specs.Rounding.{rounded}
 use Rattle.pv_num.specs.Arithmetic.{neg_of, sub_of, div_of, mul_of, floor_of, ratio_of}
-use Rattle.pv_num.specs.Laws.{equivalence}
+use Rattle.pv_num.specs.Laws.{equivalence, same-Decides}
 use Rattle.pv_num.specs.declared.num.End.TheVariants.{Down, Up}
 use Rattle.pv_num.proofs.Orders.{le-Fin, Fin-le, le-trans}
 use Rattle.pv_num.proofs.Signs.{pos_le, le_pos}
@@ -21,7 +21,6 @@ use Rattle.pv_interval.specs.Tables.{holds, negated, width_of}
 use Rattle.pv_interval.proofs.Monotone.{neg_order}
 use Rattle.pv_svg.specs.Pixels.{IsFinite, IsOn, is_flat, share_of, thousand, lower_pixel, upper_pixel}
 use Rattle.pv_svg.proofs.Shares.{share_nat, scaled_there, scaled_few, part_few, part_low, up_above}
-use Rattle.pv_svg.proofs.Ends.{same_end}
 use Rattle.pv_interval.proofs.Picks.{neg_not_pos, neg_not_neg}
 
 -- ---- A finite axis and a number on it, as whole numbers
@@ -127,7 +126,7 @@ turned_back PosInf = refl
 
 turned_long : (lo hi : Extended) → eq_by_cmp order_of lo hi ≡ false → eq_by_cmp order_of (neg_of hi) (neg_of lo) ≡ false
 turned_long lo hi h = false_from_ne_true (eq_by_cmp order_of (neg_of hi) (neg_of lo)) (λ e.
-    let same : hi ≡ lo = sym (turned_back hi) ∙ ap neg_of (same_end (neg_of hi) (neg_of lo) e) ∙ turned_back lo in
+    let same : hi ≡ lo = sym (turned_back hi) ∙ ap neg_of ((same-Decides (neg_of hi) (neg_of lo)).0 e) ∙ turned_back lo in
     both_ways (eq_by_cmp order_of lo hi) h (ap (λ x. eq_by_cmp order_of lo x) same ∙ equivalence.refl lo))
 
 same_length : (l h : ℤ) (q : ℕ) → l ≡ h → (h +ℤ neg_ℤ l) ≡ pos q → q ≡ 0
@@ -135,7 +134,7 @@ same_length l h q e f = omega (arith, ints, e, f)
 
 pub no_length : (axis : Bounds) (s : IsSpread axis) → is_flat axis ≡ true → s.length ≡ 0
 no_length axis s e =
-    let same : Fin s.low ≡ Fin s.high = sym s.low_is ∙ same_end axis.lo axis.hi e ∙ s.high_is in
+    let same : Fin s.low ≡ Fin s.high = sym s.low_is ∙ (same-Decides axis.lo axis.hi).0 e ∙ s.high_is in
     same_length s.low s.high s.length (fin_same s.low s.high same) s.long
 
 pub nothing : (p q : ℕ) → p ≤ q → q ≡ 0 → p ≡ 0
@@ -180,7 +179,7 @@ all_far l m h p q e f g = nearer l h m q p (subst (λ (x : ℤ). x ≤ℤ m) e (
 pub lower_low : (axis : Bounds) (s : IsSpread axis) (v : Extended) (a : IsAlong axis s v) → is_flat axis ≡ false → lower_pixel axis v * s.length ≤ 1000 * a.far
 lower_low axis s v a long = elim (cases_Bool (eq_by_cmp order_of v axis.hi)) [
   | inl e ↦
-      let same : Fin a.at ≡ Fin s.high = sym a.at_is ∙ same_end v axis.hi e ∙ s.high_is in
+      let same : Fin a.at ≡ Fin s.high = sym a.at_is ∙ (same-Decides v axis.hi).0 e ∙ s.high_is in
       let all : s.length ≤ a.far = all_far s.low a.at s.high a.far s.length (fin_same a.at s.high same) a.is_far s.long in
       subst (λ (k : ℕ). k * s.length ≤ 1000 * a.far) (sym (end_pixel axis v e)) (omega (arith, all))
   | inr e ↦

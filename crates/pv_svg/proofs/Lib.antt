@@ -1,4 +1,3 @@
-mod Ends
 mod Shares
 mod Axes
 mod Sides

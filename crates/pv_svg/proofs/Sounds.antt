@@ -14,7 +14,7 @@ use Rattle.pv_svg.specs.Paints.{Spot, contains, paint_of, IsPointOf, spot_of, Is
 use Rattle.pv_svg.specs.declared.rectangle.Class.{Class}
 use Rattle.pv_svg.specs.declared.rectangle.Class.TheVariants.{Removed, Inner, Small, OpenLeaf}
 use Rattle.pv_svg.specs.declared.rectangle.Rectangle.{Rectangle}
-use Rattle.pv_svg.proofs.Ends.{same_place}
+use Rattle.pv_interval.proofs.Alike.{alike_same}
 use Rattle.pv_svg.proofs.Painting.{none_parts, off_parts, not_bare, has_both, has_lone}
 use Rattle.pv_svg.proofs.Places.{contained, point_met, point_on, point_in}
 use Rattle.pv_svg.proofs.Showing.{low_child, high_child}
@@ -33,7 +33,7 @@ filled : (plane : Plane) (to b : List Bounds) → fills plane to b ≡ true → 
 filled plane to b e =
     let parts = and_parts (meets plane to) _ e in
     let axes = and_parts (same_bounds (place to plane.x) (place b plane.x)) (same_bounds (place to plane.y) (place b plane.y)) parts.1 in
-    record { met = parts.0; x = same_place (place to plane.x) (place b plane.x) axes.0; y = same_place (place to plane.y) (place b plane.y) axes.1 }
+    record { met = parts.0; x = alike_same (place to plane.x) (place b plane.x) axes.0; y = alike_same (place to plane.y) (place b plane.y) axes.1 }
 
 -- ---- One point of a plane
 

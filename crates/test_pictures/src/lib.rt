@@ -1,4 +1,4 @@
-//! Worked pictures of slices of pavings, most of which are read from their texts. This crate is tests alone.
+//! Worked pictures of slices of pavings; most pavings are read from their texts. This crate is tests alone.
 #![tactic(auto)]
 
 #[cfg(test)]

@@ -4,7 +4,7 @@ use Rattle.pv_file.specs.declared.version.Version.TheVariants.{Two}
 use Rattle.pv_file.specs.Words.{IsPlain}
 use Rattle.pv_file.proofs.Bytes.{same_words}
 use Rattle.pv_file.proofs.Numbers.{end_text_plain, marked_stays}
-use Rattle.pv_file.proofs.Places.{same_bounds}
+use Rattle.pv_interval.proofs.Alike.{same_bounds}
 use Rattle.pv_file.proofs.outcome_line.read_kept_part.Goals as goal
 
 pub returns-clause-only : goal.returns-clause-only
