@@ -210,10 +210,10 @@ sum_low z x y k i j e =
     (up_to_meet x (difference_of z y) i (difference_interval z y k j)
     (subst (λ c. IsTrue (le (sub_of Down c y.hi) x.lo)) (sym e) (low_rests x.lo y.lo y.hi i.lo_open j.lo_open j.hi_open j.ordered)))
     (λ v f.
-        let p = meet_part x (difference_of z y) v i (difference_interval z y k j) f in
-        up_to_meet y (difference_of z v) j (difference_interval z v k p.interval)
-        (subst (λ c. IsTrue (le (sub_of Down c v.hi) y.lo)) (add_swap Down y.lo x.lo ∙ sym e)
-        (low_rests y.lo x.lo v.hi j.lo_open i.lo_open p.interval.hi_open (le_trans x.lo v.lo v.hi p.low p.interval.ordered))))
+    let p = meet_part x (difference_of z y) v i (difference_interval z y k j) f in
+    up_to_meet y (difference_of z v) j (difference_interval z v k p.interval)
+    (subst (λ c. IsTrue (le (sub_of Down c v.hi) y.lo)) (add_swap Down y.lo x.lo ∙ sym e)
+    (low_rests y.lo x.lo v.hi j.lo_open i.lo_open p.interval.hi_open (le_trans x.lo v.lo v.hi p.low p.interval.ordered))))
 
 pub sum_high : (z x y : Bounds) → IsInterval z → IsInterval x → IsInterval y → z.hi ≡ (sum_of x y).hi → sum_above_of z x y ≡ back_add_of z x y
 unfolding sum_above_of back_add_of sum_of difference_of
@@ -222,10 +222,10 @@ sum_high z x y k i j e =
     (from_meet x (difference_of z y) i (difference_interval z y k j)
     (subst (λ c. IsTrue (le x.hi (sub_of Up c y.lo))) (sym e) (high_rests x.hi y.hi y.lo i.hi_open j.hi_open j.lo_open j.ordered)))
     (λ v f.
-        let p = meet_part x (difference_of z y) v i (difference_interval z y k j) f in
-        from_meet y (difference_of z v) j (difference_interval z v k p.interval)
-        (subst (λ c. IsTrue (le y.hi (sub_of Up c v.lo))) (add_swap Up y.hi x.hi ∙ sym e)
-        (high_rests y.hi x.hi v.lo j.hi_open i.hi_open p.interval.lo_open (le_trans v.lo v.hi x.hi p.interval.ordered p.high))))
+    let p = meet_part x (difference_of z y) v i (difference_interval z y k j) f in
+    from_meet y (difference_of z v) j (difference_interval z v k p.interval)
+    (subst (λ c. IsTrue (le y.hi (sub_of Up c v.lo))) (add_swap Up y.hi x.hi ∙ sym e)
+    (high_rests y.hi x.hi v.lo j.hi_open i.hi_open p.interval.lo_open (le_trans v.lo v.hi x.hi p.interval.ordered p.high))))
 
 -- ---- differences
 
@@ -238,10 +238,10 @@ difference_low z x y k i j e =
     (subst (λ d. IsTrue (le (add_of Down (sub_of Down x.lo y.hi) d) x.lo)) (twice_neg y.lo)
     (low_rests x.lo (neg_of y.hi) (neg_of y.lo) i.lo_open (neg_not_pos y.hi j.hi_open) (neg_not_neg y.lo j.lo_open) (neg_order y.lo y.hi j.ordered)))))
     (λ v f.
-        let p = meet_part x (sum_of z y) v i (sum_interval z y k j) f in
-        from_meet y (difference_of v z) j (difference_interval v z p.interval k)
-        (subst (λ c. IsTrue (le y.hi (sub_of Up v.hi c))) (sym e)
-        (less_rests x.lo y.hi v.hi i.lo_open j.hi_open p.interval.hi_open (le_trans x.lo v.lo v.hi p.low p.interval.ordered))))
+    let p = meet_part x (sum_of z y) v i (sum_interval z y k j) f in
+    from_meet y (difference_of v z) j (difference_interval v z p.interval k)
+    (subst (λ c. IsTrue (le y.hi (sub_of Up v.hi c))) (sym e)
+    (less_rests x.lo y.hi v.hi i.lo_open j.hi_open p.interval.hi_open (le_trans x.lo v.lo v.hi p.low p.interval.ordered))))
 
 pub difference_high : (z x y : Bounds) → IsInterval z → IsInterval x → IsInterval y → z.hi ≡ (difference_of x y).hi → difference_above_of z x y ≡ back_sub_of z x y
 unfolding difference_above_of back_sub_of sum_of difference_of
@@ -252,7 +252,7 @@ difference_high z x y k i j e =
     (subst (λ d. IsTrue (le x.hi (add_of Up (sub_of Up x.hi y.lo) d))) (twice_neg y.hi)
     (high_rests x.hi (neg_of y.lo) (neg_of y.hi) i.hi_open (neg_not_neg y.lo j.lo_open) (neg_not_pos y.hi j.hi_open) (neg_order y.lo y.hi j.ordered)))))
     (λ v f.
-        let p = meet_part x (sum_of z y) v i (sum_interval z y k j) f in
-        up_to_meet y (difference_of v z) j (difference_interval v z p.interval k)
-        (subst (λ c. IsTrue (le (sub_of Down v.lo c) y.lo)) (sym e)
-        (more_rests x.hi y.lo v.lo i.hi_open j.lo_open p.interval.lo_open (le_trans v.lo v.hi x.hi p.interval.ordered p.high))))
+    let p = meet_part x (sum_of z y) v i (sum_interval z y k j) f in
+    up_to_meet y (difference_of v z) j (difference_interval v z p.interval k)
+    (subst (λ c. IsTrue (le (sub_of Down v.lo c) y.lo)) (sym e)
+    (more_rests x.hi y.lo v.lo i.hi_open j.lo_open p.interval.lo_open (le_trans v.lo v.hi x.hi p.interval.ordered p.high))))
