@@ -120,7 +120,13 @@ pub(crate) fn narrow(
             None => false,
         },
         Node::Two(op, a, b) => {
-            match back_binary(op, target, values[a], values[b], rest_of(target, values[at])) {
+            match back_binary(
+                op,
+                target,
+                values[a],
+                values[b],
+                rest_of(target, values[at]),
+            ) {
                 Some(both) => {
                     narrow(nodes, values, rests, a, both.0, entry, bx)
                         && narrow(nodes, values, rests, b, both.1, entry, bx)
