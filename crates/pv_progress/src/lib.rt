@@ -4,6 +4,7 @@
 mod clearing;
 mod line;
 mod progress;
+mod stream;
 #[cfg(test)]
 mod tests;
 
