@@ -224,6 +224,21 @@ class Page(unittest.TestCase):
         browser.drawn()
         self.assertEqual(browser.value("[paverView.axes.x.variable, paverView.axes.y.variable]"), [2, 1])
 
+    def test_edges(self) -> None:
+        """Boxes side by side have edges. In a projection, where boxes lie on each other and lines would cover the picture, there
+        are none until one zooms in."""
+        browser = self.open("torus", eps="0.125", boxes=100000)
+        edges = "outlinesOf(paverView.panes[0], paverView.axes, paverView.shownLevels()).length / 4"
+        self.assertGreater(browser.value(edges), 20)
+        browser.value("document.querySelector('[name=mode][value=projection]').click()")
+        browser.drawn()
+        self.assertEqual(browser.value(edges), 0)
+        x, y, *_ = self.place(2.0, 0.0)
+        for _ in range(4):
+            browser.wheel(x, y, -240)
+            browser.drawn()
+        self.assertGreater(browser.value(edges), 0)
+
     # ---- moving
 
     def test_moves(self) -> None:

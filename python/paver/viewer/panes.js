@@ -82,7 +82,7 @@ class Pane {
   }
 
   drawOutlines(context, axes, levels, palette) {
-    const found = outlinesOf(this.layers[0].tree, axes, levels, this.width, this.height, LEAST_OUTLINE * this.ratio);
+    const found = outlinesOf(this, axes, levels);
     context.strokeStyle = palette.line;
     context.globalAlpha = 0.38;
     context.lineWidth = Math.max(1, Math.round(0.6 * this.ratio));
@@ -142,10 +142,22 @@ class Pane {
   }
 }
 
-function outlinesOf(tree, axes, levels, width, height, least) {
-  const outliner = new Outliner(tree, axes.x, axes.y, levels, least, MOST_OUTLINES);
+// The outlines of the boxes in sight. There are none if lines of a pixel could cover the picture, as those of boxes that lie
+// on each other do.
+function outlinesOf({ layers, width, height, ratio }, axes, levels) {
+  const outliner = new Outliner(layers[0].tree, axes.x, axes.y, levels, LEAST_OUTLINE * ratio, MOST_OUTLINES);
   outliner.begin(new Sheet(null, width, 0, 0, width, height));
-  return outliner.found;
+  return lengthOf(outliner.found, width, height) * ratio > width * height ? [] : outliner.found;
+}
+
+// The length of the lines of outlines within the picture.
+function lengthOf(found, width, height) {
+  let length = 0;
+  for (let k = 0; k < found.length; k += 4) {
+    const [x0, x1, y0, y1] = clippedOutline(found, k, width, height);
+    length += 2 * (x1 - x0 + y1 - y0);
+  }
+  return length;
 }
 
 function clippedOutline(found, k, width, height) {

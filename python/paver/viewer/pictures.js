@@ -114,7 +114,7 @@ function svgOfPane(pane, axes, levels, how, left) {
 }
 
 function svgOutlines(pane, axes, levels, palette) {
-  const found = outlinesOf(pane.layers[0].tree, axes, levels, pane.width, pane.height, LEAST_OUTLINE * pane.ratio), parts = [];
+  const found = outlinesOf(pane, axes, levels), parts = [];
   const short = (value) => String(Math.round(value / pane.ratio * 100) / 100);
   for (let k = 0; k < found.length; k += 4) {
     const [x0, x1, y0, y1] = clippedOutline(found, k, pane.width, pane.height)

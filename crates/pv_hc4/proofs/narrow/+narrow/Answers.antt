@@ -4,7 +4,7 @@ use Rattle.pv_hc4.specs.Revise.{went}
 use Rattle.pv_hc4.specs.Nodes.{terms, term_at, AreOrdered}
 use Rattle.pv_hc4.specs.declared.node.Node.TheVariants.{One, Two}
 use Rattle.pv_hc4.proofs.Resting.{rest_gives, rest_after, rest_is, gives_true}
-use Rattle.pv_hc4.proofs.Downward.{below_is, term_read, one_read, two_read, second_gives, first_fails}
+use Rattle.pv_hc4.proofs.Downward.{below_is, term_read, one_read, two_read, rests_read, second_gives, first_fails}
 use Rattle.pv_hc4.proofs.narrow.+narrow.Goals as goal
 
 pub returns-in-Constant-clause-narrowed : goal.returns-in-Constant-clause-narrowed
@@ -85,3 +85,12 @@ narrow-requires-then-narrow t c =
         ),
       ),
     )
+
+pub back_binary-requires : goal.back_binary-requires
+back_binary-requires t c =
+    rests_read c.args.entry.now c.args.nodes.now c.args.values.now _ c.args.at c.in-Two.op c.in-Two.a c.in-Two.b _ c.index-values-a-in-Two.result c.index-values-b.result c.index-values-at-in-Two.result c.rest_of.result c.args.target c.requires.ordered c.requires.valued c.requires.inside c.in-Two.is c.index-values-a-in-Two.is c.index-values-b.is c.index-values-at-in-Two.is c.rest_of.ensures
+
+pub narrow-requires-in-Some-back_binary : goal.narrow-requires-in-Some-back_binary
+narrow-requires-in-Some-back_binary t c =
+    let u = below_is c.args.nodes.now _ c.args.at (Two c.in-Two.op c.in-Two.a c.in-Two.b) _ c.requires.ordered c.requires.inside c.in-Two.is in
+    (search (rules, u.0), (search (rules, u.0), (c.requires.ordered, (c.requires.valued, c.requires.rest))))
