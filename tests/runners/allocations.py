@@ -169,6 +169,13 @@ class RefusingTest(CommandsTest):
 class Allocations(RefusingTest):
     """Each command with its n-th allocation refused."""
 
+    def judge(self, words: list[str], how: str, got: Answered, wanted: Answered, before: dict[str, bytes], stored: str,
+              new: bytes | None) -> None:
+        """Besides, with status 7 those alone have printed something that print nodes."""
+        super().judge(words, how, got, wanted, before, stored, new)
+        if got[0] == 7 and (stored or words[0] not in ("run", "run-centered", "resume", "merge")):
+            self.assertEqual(got[1], b"", (words, how))
+
     def test_commands(self) -> None:
         self.try_all(commands())
 

@@ -240,18 +240,28 @@ class Limits(KeptTest):
             subprocess.run(["umount", str(disk)], check=True)
 
     def test_many_nodes_in_many_variables(self) -> None:
-        """100,000 nodes in 12 variables stay within 160 MiB, by one worker and by 16."""
+        """100,000 nodes in 12 variables stay within 224 MiB, by one worker and by 16: stored, and printed with numbers that are
+        nearly as long as numbers can be, which a join of two files prints, too."""
         names = [f"v{i}" for i in range(12)]
         squares = " + ".join(f"{name}^2" for name in names)
         self.put("s", system(", ".join(f"{name} in [0,1]" for name in names), f"{squares} <= 3"))
+        self.put("t", system(", ".join(f"{name} in [-0.9e-35,-0.1e-35]" for name in names),
+                             " + ".join(f"{name}-{name}" for name in names) + " <= 0"))
+        deep = ["--eps", "0", "--depth", "200"]
+        self.call("run", "t", *deep, "--boxes", "99999", "--out", "q")
         for workers in ("1", "16"):
-            words = [self.program, "run", "s", "--boxes", "100000", "--workers", workers, "--out", "p"]
-            with subprocess.Popen(words, cwd=self.path, stdout=subprocess.PIPE) as child:
-                said = child.stdout.read()
-                _, status, usage = os.wait4(child.pid, 0)
-                child.returncode = os.waitstatus_to_exitcode(status)
-            self.assertTrue(said.startswith(b"settled 100000 "), said)
-            self.assertLessEqual(usage.ru_maxrss, 160 * 1024, (workers, usage.ru_maxrss))
+            for words in (["run", "s", "--boxes", "100000", "--out", "p"], ["run", "t", *deep, "--boxes", "100000"],
+                          ["run", "t", *deep, "--boxes", "100000", "--out", "p"],
+                          ["resume", "t", "q", "q", *deep, "--boxes", "1"]):
+                with subprocess.Popen([self.program, *words, "--workers", workers], cwd=self.path,
+                                      stdout=subprocess.PIPE) as child:
+                    said = child.stdout.readline()
+                    while child.stdout.read(1 << 20):
+                        pass
+                    _, status, usage = os.wait4(child.pid, 0)
+                    child.returncode = os.waitstatus_to_exitcode(status)
+                self.assertTrue(said.startswith(b"settled 100000 "), said)
+                self.assertLessEqual(usage.ru_maxrss, 224 * 1024, (words, workers, usage.ru_maxrss))
 
     def test_slow_texts(self) -> None:
         """The slowest texts that we know take a moment of the processor; other work on the machine is not counted."""

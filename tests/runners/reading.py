@@ -59,8 +59,16 @@ class Reading(FolderTest):
         self.assertEqual(len(shown), 1)
         self.assertIn("\n".join(line.strip() for line in shown[0].splitlines()), "\n".join(program))
 
+    def test_contract(self) -> None:
+        """The contract that the page shows stands in the file of the call that it names next."""
+        shown = re.findall(r"^```rattle\n(.*?)^```.*?\]\(([^)]+)\)", self.text, re.M | re.S)
+        self.assertEqual(len(shown), 1)
+        for lines, file in shown:
+            code = [line.strip() for line in (PAGE.parent / file).read_text().splitlines()]
+            self.assertIn("\n".join(line.strip() for line in lines.splitlines()), "\n".join(code))
+
     def test_commands(self) -> None:
-        blocks = re.findall(r"^```\n(.*?)^```", self.text, re.M | re.S)
+        blocks = [block for kind, block in re.findall(r"^```(.*)\n((?:.*\n)*?)```$", self.text, re.M) if not kind]
         systems, shown = ([block for block in blocks if block.startswith("$ ") == wanted] for wanted in (False, True))
         self.assertEqual((len(systems), len(shown)), (2, 3))
         for name, system in zip(("square.mbx", "broken.mbx"), systems):
