@@ -161,3 +161,11 @@ def value(steps: Steps, point: Sequence[Fraction]) -> Optional[Fraction]:
                          x / y if kind == "/" else min(x, y) if kind == "min" else max(x, y))
     found: Fraction = stack[0]
     return found
+
+
+def holds(c: Constraint, point: Sequence[Fraction]) -> bool:
+    """Whether both sides have values at a point, and the constraint holds there."""
+    left, right = value(c.left, point), value(c.right, point)
+    if left is None or right is None:
+        return False
+    return {"=": left == right, "<=": left <= right, "<": left < right, ">=": left >= right, ">": left > right}[c.relation]

@@ -9,7 +9,7 @@ from __future__ import annotations
 import math
 import subprocess
 import tempfile
-from collections.abc import Callable, Iterable, Mapping
+from collections.abc import Callable, Iterable, Mapping, Sequence
 from dataclasses import dataclass, field
 from fractions import Fraction
 from pathlib import Path
@@ -20,9 +20,12 @@ from . import canonical, errors, numbers, program
 from .canonical import Steps, System
 from .cover import Box
 from .descent import Field, low_point
+from .intervals import Undefined
 from .levels_kept import Proof, command_words, stored
 from .paving import Paving
+from .ranges import range_of
 from .texts import ENCODING, SystemText
+from .values import least
 from .widen import Width, widened, widened_contract
 
 Exact = Union[Fraction, float]  # a float where it is infinite
@@ -142,6 +145,29 @@ class Question:
         top = math.floor(math.log10(max(finite, default=0) or 10))
         return [Fraction(10) ** (top - k) for k in range(1, LADDER) if -36 <= top - k <= 30] or [Fraction(1)]
 
+    def bottom(self) -> Exact:
+        """A number that the expression's values on the search box don't fall below; -math.inf where none is seen."""
+        if len(self.objective) == 1 and self.objective[0][0] == "var":
+            return self.root[self.objective[0][1]][0]
+        used = {step[1] for step in self.objective if step[0] == "var"}
+        if any(isinstance(end, float) for k in used for end in self.root[k]):
+            return -math.inf
+        nothing = (Fraction(0), Fraction(0))
+        box = [(Fraction(low), Fraction(high)) if k in used else nothing for k, (low, high) in enumerate(self.root)]
+        try:
+            return range_of(self.objective, box)[0]
+        except Undefined:
+            return -math.inf
+
+    def field(self, point: Sequence[Fraction] | None = None) -> Field:
+        """The expression and the constraints in floats. Under a contractor text, by which a point of the set may fail some
+        constraints, those that hold at the point."""
+        base = self.base
+        if self.given and point is not None:
+            held = [c for c in base.constraints if canonical.holds(c, point)]
+            base = System(base.names, base.root, held, base.text)
+        return Field(base, self.objective, [(float(low), float(high)) for low, high in self.root])
+
     def holds(self, point: Iterable[Fraction]) -> bool:
         """Whether a point lies in the domains as they are written."""
         return all(low <= value <= high for value, (low, high) in zip(point, self.domains))
@@ -162,8 +188,7 @@ class Search:
         self.undecided: set[Fraction] = set()
         self.tried: set[Fraction] = set()
         self.step, self.falls = within, 0
-        floats = [(float(low), float(high)) for low, high in question.root]
-        self.field = Field(question.base, question.objective, floats)
+        self.bottom = question.bottom()
 
     # ---- calls of the program
 
@@ -224,12 +249,31 @@ class Search:
         self.found.upper, self.found.point, self.found.proofs["upper"] = bound, point, proof
         self.told()
 
-    def descend(self, begin: Iterable[Iterable[Exact]] = ()) -> None:
-        """A low point is looked for in floats, and then certified."""
+    def descend(self, begin: tuple[Fraction, ...] | None = None) -> None:
+        """A low point is looked for in floats, from a point of the set where one is known, and then certified."""
         left = min(HINT, self.until - monotonic())
-        x = low_point(self.field, left, float(self.found.within) / 100, [list(map(float, p)) for p in begin])
+        starts = [] if begin is None else [list(map(float, begin))]
+        x = low_point(self.question.field(begin), left, float(self.found.within) / 100, starts)
         if x is not None and all(map(math.isfinite, x)):
             self.certified(short_point(x))
+
+    def plain_point(self) -> None:
+        """The point that the program's `least` finds is certified and improved."""
+        eps, left = self.question.widths()[:2][-1], self.until - monotonic()
+        settings = self.question.settings(None, eps, self.question.boxes)
+        of = canonical.infix(self.question.objective, self.question.base.names)  # `least` knows no functions of the text
+        self.found.calls += 1
+        with program.as_file(self.question.at_level(None)) as path:
+            try:
+                point = least(path, of, program=self.question.path, timeout=max(left, 0), **settings).point
+            except errors.ObjectiveRefused:  # it is too long in these words
+                return
+            except subprocess.TimeoutExpired as late:
+                raise Stopped(TIME) from late
+            except errors.WantOfMemory as fault:
+                raise Stopped(MEMORY) from fault
+        if point is not None and (self.certified(short_point(point)) or self.certified(point)):
+            self.descend(self.found.point)
 
     def witness(self, level: Fraction | None, proof: Proof, paving: Paving) -> None:
         """Points of inner boxes are looked at, and the best one is improved."""
@@ -245,7 +289,7 @@ class Search:
         if level is not None and (self.found.upper is None or level < self.found.upper):
             self.raise_point(level, point, proof)  # an inner box of this run holds the point
         self.certified(short_point(point)) or self.certified(point)
-        self.descend([point])
+        self.descend(point)
 
     # ---- where to ask
 
@@ -263,8 +307,11 @@ class Search:
     def wanted_level(self) -> Fraction | None:
         found, within = self.found, self.found.within
         top = found.upper
-        if top is not None and self.falls < MOST_FALLS and self.rounded(top - within) not in self.tried:
+        unbound = found.lower == -math.inf and self.below_bottom() not in (None, *self.tried)
+        if top is not None and self.falls < (1 if unbound else MOST_FALLS) and self.rounded(top - within) not in self.tried:
             return self.rounded(top - within)
+        if unbound:
+            return self.below_bottom()
         if found.lower == -math.inf:
             self.step *= 4
             return self.rounded((top or 0) - self.step) if self.step <= MOST_STEP else None
@@ -280,6 +327,10 @@ class Search:
                 return middle
         return None
 
+    def below_bottom(self) -> Fraction | None:
+        """The first level below all values on the search box; None where none is known."""
+        return None if isinstance(self.bottom, float) else self.rounded(self.bottom - self.quantum)
+
     def told(self) -> None:
         if self.tell:
             self.tell(self.found)
@@ -289,7 +340,10 @@ class Search:
     def begin(self, tries: Iterable[Iterable[Fraction]]) -> None:
         for point in tries:
             self.certified(point)
-        self.descend([self.found.point] if self.found.point else ())
+        if self.question.given and self.found.point is None:
+            self.plain_point()
+        else:
+            self.descend(self.found.point)
         if self.found.point is None:
             said, proof, paving = self.ask(None)
             if said == NOTHING:

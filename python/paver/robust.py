@@ -19,7 +19,7 @@ from pathlib import Path
 from typing import Any, Dict, TextIO, Union
 
 from . import program
-from .canonical import Constraint, Steps, System, infix, value
+from .canonical import Constraint, Steps, System, holds, infix, value
 from .cover import Box, Cover, Node
 from .curvature import at_vertices
 from .numbers import as_float, grid, spelling
@@ -308,13 +308,6 @@ class Classifier:
 def inside(pair: tuple[Fraction, Fraction], domain: tuple[Fraction | float, Fraction | float]) -> Fraction | float:
     """The middle of an interval, moved into a domain as it is written."""
     return min(max((pair[0] + pair[1]) / 2, domain[0]), domain[1])
-
-
-def holds(c: Constraint, point: Sequence[Fraction]) -> bool:
-    left, right = value(c.left, point), value(c.right, point)
-    if left is None or right is None:
-        return False
-    return {"<=": left <= right, "<": left < right, ">=": left >= right, ">": left > right}[c.relation]
 
 
 def robust(system: str | Path, for_all: Iterable[str], *, vertices: bool = True, centered: bool = True,

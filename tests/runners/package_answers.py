@@ -267,6 +267,22 @@ class Answers(PackageTest):
             self.assert_raised(ValueError, lambda: paver.least_by_levels(path, "x", tries=[{"x": Fraction(1)}]))
             self.assert_raised(ValueError, lambda: paver.least_by_levels(path, "x", tries=[dict.fromkeys("xyz", Fraction(1))]))
 
+    def test_least_of_outliers(self) -> None:
+        """Eight of ten measurements of a constant lie from 0.5 to 0.6, so that the least error with two wrong is 0.05: found in
+        few calls under a qinter text. No bound that is told lies below the domain's."""
+        values = ["0.5", "0.51", "1.9", "0.52", "0.55", "0.57", "0.1", "0.58", "0.59", "0.6"]
+        text = "Variables c in [0,2], error in [0,2]; Constraints " + "".join(f"abs(c - {v}) <= error; " for v in values) + "end"
+        contract, told = f"qinter(8,{','.join(f'hc4({k})' for k in range(10))})", []
+        with Written(text) as path:
+            found = paver.least_by_levels(path, "error", contract=contract, tell=lambda bounds: told.append(bounds.lower))
+        self.assertTrue(found.complete and found.upper is not None, found)
+        self.assertTrue(found.lower < Fraction(1, 20) <= (found.upper or 0) <= Fraction(51, 1000), found)
+        self.assertLessEqual(found.calls, 6, found)
+        self.assertTrue(all(lower == -math.inf or lower > Fraction(-1, 1000) for lower in told), told)
+        with Written(CIRCLE.replace("x in [-2,2]", "x in [0,2]")) as path:
+            bare = paver.least_by_levels(path, "x", boxes=200)
+        self.assertTrue(Fraction(-1, 1000) <= bare.lower < 0, bare)
+
     def test_widened_least(self) -> None:
         """Of equations with irrational roots alone the widened system has points, and its bounds are near the true value."""
         with Written(CIRCLE) as path:
