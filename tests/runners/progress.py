@@ -1,22 +1,17 @@
 """Runs the real binary with its line of progress shown, hidden and left to whether standard error is a terminal. The line
 comes and is wiped, and nothing else changes: not what is printed, not what is stored, not the command's own line on standard
-error, not the status. Nor does a run wait for who reads the line.
+error, not the status.
 
     python3 -m tests.runners.progress [-k WORD]
 """
 from __future__ import annotations
 
-import fcntl
 import os
 import pty
 import re
-import socket
 import statistics
 import subprocess
-import tempfile
 import time
-from collections.abc import Iterator
-from contextlib import contextmanager
 
 from tests.runners.outside import RING
 from tests.runners.running import SECONDS, FolderTest, main, rows
@@ -28,21 +23,6 @@ LONG = ["run", "s", "--eps", "0.00005", "--boxes", "10000000", "--limit", "10000
 # Calls that settle no node, over the files `s` and `p`.
 SETTLING_NOTHING = [["check", "s"], ["audit", "s", "p", "--eps", "0.05"], ["merge", "s", "p", "--eps", "0.05"],
                     ["least", "s", "--of", "x", "--eps", "0.05"]]
-PAGE = os.sysconf("SC_PAGE_SIZE")  # the least that a pipe takes
-UNREAD = 120  # seconds of a run that shows the line to nobody
-
-
-@contextmanager
-def unread_pipe(room: int) -> Iterator[tuple[int, int]]:
-    """The ends of a pipe of one page that nobody reads, with room for so many bytes."""
-    reader, writer = os.pipe()
-    try:
-        fcntl.fcntl(writer, fcntl.F_SETPIPE_SZ, PAGE)
-        os.write(writer, b"." * (PAGE - room))
-        yield reader, writer
-    finally:
-        os.close(reader)
-        os.close(writer)
 
 
 def surroundings(wish: str | None) -> dict[str, str]:
@@ -190,76 +170,6 @@ class Progress(FolderTest):
                               timeout=SECONDS, check=False)
         self.assertEqual(done.returncode, wanted[0])
         self.assertTrue(done.stdout == wanted[1], "another answer")
-
-    # ---- nobody reads
-
-    def check_unread(self, err: int, *words: str) -> None:
-        """With this standard error, which nobody reads, a command answers what it does with none, and leaves the stream's
-        flags as they are."""
-        status, printed, _ = self.told("0", *words)
-        flags = fcntl.fcntl(err, fcntl.F_GETFL)
-        with subprocess.Popen([self.program, *words], cwd=self.path, stdin=subprocess.DEVNULL, stdout=subprocess.PIPE,
-                              stderr=err, env=surroundings("1")) as child:
-            try:
-                shown = child.communicate(timeout=UNREAD)[0]
-            except subprocess.TimeoutExpired:
-                child.kill()
-                self.fail(f"{words}: the run waits for who reads its line")
-            finally:
-                self.assertEqual(fcntl.fcntl(err, fcntl.F_GETFL), flags)
-        self.assertEqual((status, child.returncode), (0, 0), words)
-        self.assertTrue(shown == printed, f"{words}: another answer")
-
-    def test_a_full_pipe_holds_no_run(self) -> None:
-        for words in rows([[*SHORT, "--workers", "1"], [*SHORT, "--workers", "4"], LONG]):
-            with self.subTest(words), unread_pipe(0) as (reader, writer):
-                self.check_unread(writer, *words)
-                self.assertEqual(os.read(reader, 2 * PAGE), b"." * PAGE)
-
-    def test_a_pipe_that_lines_fill_up_holds_no_run(self) -> None:
-        """It has room for two lines or three, and the run has more. Each that it takes is whole."""
-        room = 150
-        with unread_pipe(room) as (reader, writer):
-            self.check_unread(writer, *LONG)
-            given = os.read(reader, 2 * PAGE)
-        lines = [piece for piece in given[PAGE - room:].split(b"\r") if piece.strip(b" ")]
-        self.assertTrue(lines, given)
-        for line in lines:
-            self.assertTrue(LINE.fullmatch(line), given)
-
-    def test_a_pipe_with_a_name_whose_reader_left_holds_no_run(self) -> None:
-        with tempfile.TemporaryDirectory() as folder:
-            path = os.path.join(folder, "fifo")
-            os.mkfifo(path)
-            reader = os.open(path, os.O_RDONLY | os.O_NONBLOCK)
-            writer = os.open(path, os.O_WRONLY)
-            os.close(reader)
-            self.check_unread(writer, *SHORT)
-            os.close(writer)
-
-    def test_a_socket_holds_no_run_and_shows_none(self) -> None:
-        ours, theirs = socket.socketpair()
-        with ours, theirs:
-            self.check_unread(theirs.fileno(), *SHORT)
-            theirs.close()
-            self.assertEqual(ours.recv(1), b"")
-
-    def test_a_pipe_that_is_read_late_has_all(self) -> None:
-        reader, writer = os.pipe()
-        self.check_unread(writer, *SHORT)
-        os.close(writer)
-        self.check_lines(read_all(reader))
-        os.close(reader)
-
-    def test_a_file_shows_it_behind_what_it_has(self) -> None:
-        with open(self.path.with_suffix(".log"), "wb") as log:
-            self.addCleanup(os.unlink, log.name)
-            log.write(b"before\n")
-            log.flush()
-            self.check_unread(log.fileno(), *SHORT)
-        with open(log.name, "rb") as log:
-            self.assertEqual(log.readline(), b"before\n")
-            self.check_lines(log.read())
 
     # ---- on a terminal
 

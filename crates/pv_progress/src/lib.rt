@@ -4,7 +4,6 @@
 mod clearing;
 mod line;
 mod progress;
-mod stream;
 #[cfg(test)]
 mod tests;
 

@@ -1,6 +1,6 @@
 //! The count of a run, by its workers.
 use crate::line::line_of;
-use crate::stream::Stream;
+use pv_io::takes_all;
 use pv_pool::Gate;
 use pv_tree::Path;
 use std::alloc::AllocError;
@@ -20,10 +20,8 @@ const BETWEEN_LINES: u64 = 500;
 
 const UNTIL_FIRST: u64 = 1000;
 
-// At least as many bytes as a line has.
-const WIDEST: usize = 96;
-
-const BLANKS: [u8; WIDEST] = [b' '; WIDEST];
+// At least as many blanks as a line has bytes.
+const BLANKS: [u8; 96] = [b' '; 96];
 
 // One worker's count, far from the others' in memory, so that no two workers write to one cache
 // line.
@@ -42,21 +40,6 @@ impl Place {
     }
 }
 
-// What it takes to show a line.
-#[derive(Drop)]
-struct Showing<'a> {
-    begun: Instant,
-    err: Stream<'a>,
-}
-
-impl<'a> Showing<'a> {
-    fn begin(rt: &'a HostRuntime) -> Option<Self> {
-        let begun = Instant::now(rt).ok()?;
-        let err = Stream::open(rt)?;
-        Some(Showing { begun, err })
-    }
-}
-
 // What the environment says of the line.
 enum Wish {
     Shown,
@@ -67,14 +50,14 @@ enum Wish {
 /// Counts what workers settle, and shows the count on standard error in one line that is written
 /// anew twice a second.
 ///
-/// It is shown if standard error is a terminal, from a second after the beginning on. If
-/// `PAVER_PROGRESS` is `1` it is shown from the first settling on, also in a file or a pipe, and if
-/// it is `0` not at all. In a pipe that is full a line or its wiping is left out.
+/// It is shown where standard error is a terminal, from a second after the beginning on. Where
+/// `PAVER_PROGRESS` is `1` it is shown from the first settling on, terminal or not, and where it is
+/// `0` not at all.
 #[derive(Drop)]
 pub struct Progress<'a> {
     rt: &'a HostRuntime,
-    // None if no line is to be shown.
-    showing: Option<Showing<'a>>,
+    // None where no line is to be shown.
+    begun: Option<Instant>,
     places: [Place; PLACES],
     // When the next line is due, in milliseconds after the beginning.
     due: AtomicU64,
@@ -90,29 +73,30 @@ impl<'a> Progress<'a> {
             Wish::Hidden => (false, 0),
             Wish::OnTerminals => (rt.stderr().is_terminal(), UNTIL_FIRST),
         };
+        let begun = if shows { Instant::now(rt).ok() } else { None };
         Progress {
             rt,
-            showing: if shows { Showing::begin(rt) } else { None },
+            begun,
             places: std::array::from_fn(|_| Place::new()),
             due: AtomicU64::new(first),
             shown: AtomicU64::new(0),
         }
     }
 
-    /// Wipes the line, if one is shown. It is to be called while no worker is at work.
+    /// Wipes the line, where one is shown. It is to be called while no worker is at work.
     pub fn clear(&self) {
-        let width = self.shown.load(Ordering::SeqCst);
-        if 0 < width
-            && let Some(showing) = &self.showing
-            && wipe(&showing.err, width)
-        {
-            self.shown.store(0, Ordering::SeqCst);
+        if self.shown.load(Ordering::SeqCst) == 0 {
+            return;
         }
+        let width = self.shown.swap(0, Ordering::SeqCst);
+        self.put(b"\r");
+        self.put(blanks(width));
+        self.put(b"\r");
     }
 
-    // Shows a line, if one is due.
-    fn look(&self, showing: &Showing<'_>) {
-        let Ok(passed) = showing.begun.elapsed(self.rt) else {
+    // Shows a line, where one is due.
+    fn look(&self, begun: &Instant) {
+        let Ok(passed) = begun.elapsed(self.rt) else {
             return;
         };
         let now = u64::try_from(passed.as_millis()).unwrap_or(u64::MAX);
@@ -127,23 +111,21 @@ impl<'a> Progress<'a> {
             .compare_exchange(due, next, Ordering::SeqCst, Ordering::SeqCst)
             .is_ok();
         if is_first {
-            // If memory is wanting there is no line.
-            let _ = self.show(&showing.err, now);
+            // Where memory is wanting there is no line.
+            let _ = self.show(now);
         }
     }
 
-    fn show(&self, err: &Stream<'_>, milliseconds: u64) -> Result<(), AllocError> {
+    fn show(&self, milliseconds: u64) -> Result<(), AllocError> {
         let (settled, workers) = self.counted();
         let line = line_of(self.rt.alloc(), settled, milliseconds, workers)?;
         let width = line.len() as u64;
-        let before = self.shown.load(Ordering::SeqCst);
+        let before = self.shown.swap(width, Ordering::SeqCst);
         let mut text = Vec::new(self.rt.alloc());
         text.push(b'\r')?;
         text.extend_from_slice(&line)?;
         text.extend_from_slice(blanks(before.saturating_sub(width)))?;
-        if err.put(&text) {
-            self.shown.store(width, Ordering::SeqCst);
-        }
+        self.put(&text);
         Ok(())
     }
 
@@ -158,14 +140,20 @@ impl<'a> Progress<'a> {
         }
         (settled, workers)
     }
+
+    // Writes to standard error. What it doesn't take is lost, as the line is of no account.
+    fn put(&self, bytes: &[u8]) {
+        let mut err = self.rt.stderr();
+        takes_all(&mut err, bytes);
+    }
 }
 
 impl Gate for Progress<'_> {
     fn enter(&self, worker: u64, _path: Path) {
-        if let Some(showing) = &self.showing
+        if let Some(begun) = &self.begun
             && count_at(&self.places, worker) % BETWEEN_LOOKS == 0
         {
-            self.look(showing);
+            self.look(begun);
         }
     }
 }
@@ -186,17 +174,6 @@ fn asked(rt: &HostRuntime) -> Wish {
     }
 }
 
-// Wipes a line in one piece, which a pipe takes whole or not at all.
-fn wipe(err: &Stream<'_>, width: u64) -> bool {
-    let end = (width as usize).min(WIDEST) + 1;
-    let piece: [u8; WIDEST + 2] = std::array::from_fn(|at| if at == 0 || at == end {
-        b'\r'
-    } else {
-        b' '
-    });
-    err.put(&piece[..end + 1])
-}
-
 fn blanks(width: u64) -> &'static [u8] {
-    &BLANKS[..(width as usize).min(WIDEST)]
+    &BLANKS[..(width as usize).min(BLANKS.len())]
 }
