@@ -1,36 +1,36 @@
-"""Which boxes share a face: those that end and begin at one number of a variable, and overlap in all others."""
+"""Which boxes share a face. In a plane these are found by their ends; else by the tree, as groups of boxes that touch are."""
 from __future__ import annotations
 
+from array import array
 from collections import defaultdict
-from itertools import accumulate, chain
-from typing import Dict, List, Optional, Sequence, Tuple
+from itertools import accumulate
+from typing import Dict, List, Sequence, Tuple
 
-FEW = 64  # pairs that are compared one by one
+from .clusters import Forest
+from .tree import Ends, Tree
+
 Columns = Sequence[Sequence[int]]  # of each variable the lower ends of all boxes, then the upper ones
 
 
-def neighbours(columns: Columns, places: Sequence[int], count: int) -> Tuple[List[int], List[int]]:
-    """Where the neighbours of each of so many boxes begin, and all neighbours, those of one box after those of another. Boxes
-    have no point inside two of them; places are the variables whose domain is more than one number."""
-    keys: List[int] = []
-    for k in places:
-        others = [place for place in places if place != k]
-        flat = {low for low, high in zip(columns[2 * k], columns[2 * k + 1]) if low == high}
-        begin, end = by_end(columns[2 * k]), by_end(columns[2 * k + 1])
-        for at, left in end.items():
-            right = begin.get(at)
-            if right is None:
-                continue
-            if len(others) == 1 and at not in flat:
-                keys += in_line(left, right, columns[2 * others[0]], columns[2 * others[0] + 1], count)
-            else:
-                keys += overlapping(left, right, columns, others, count)
+def neighbours(trees: Sequence[Tree], columns: Columns, places: Sequence[int], flat: int) -> Tuple[List[int], List[int]]:
+    """Where the neighbours of each inner box begin, and all neighbours, those of one box after those of another. Places are the
+    variables whose domain is more than one number; flat is in how many places neighbours may meet in one number alone."""
+    count = len(columns[0])
+    if len(places) == 2 and not any(is_flat(columns, k) for k in places):
+        keys = [key for k, other in (places, places[::-1]) for key in across(columns, k, other)]
+    else:
+        keys = Faces(trees, flat).keys(count)
     keys += [key % count * count + key // count for key in keys]
     keys.sort()
     degrees = [0] * (count + 1)
     for key in keys:
         degrees[key // count + 1] += 1
     return list(accumulate(degrees)), [key % count for key in keys]
+
+
+def is_flat(columns: Columns, k: int) -> bool:
+    """Whether some box has one number alone of a variable."""
+    return any(low == high for low, high in zip(columns[2 * k], columns[2 * k + 1]))
 
 
 def by_end(column: Sequence[int]) -> Dict[int, List[int]]:
@@ -41,10 +41,20 @@ def by_end(column: Sequence[int]) -> Dict[int, List[int]]:
     return found
 
 
-def in_line(left: List[int], right: List[int], lows: Sequence[int], highs: Sequence[int], count: int) -> List[int]:
+def across(columns: Columns, k: int, other: int) -> List[int]:
+    """The pairs of boxes of a plane of which one ends where the other begins, in variable k, as whole numbers."""
+    lows, highs = columns[2 * other], columns[2 * other + 1]
+    begin, found = by_end(columns[2 * k]), []
+    for end, left in by_end(columns[2 * k + 1]).items():
+        if end in begin:
+            found += in_line(left, begin[end], lows, highs)
+    return found
+
+
+def in_line(left: List[int], right: List[int], lows: Sequence[int], highs: Sequence[int]) -> List[int]:
     """The pairs of a left and a right box that overlap in one variable, in which no two of a side do, as whole numbers."""
     left, right = sorted(left, key=lows.__getitem__), sorted(right, key=lows.__getitem__)
-    found, i, j, most, last = [], 0, 0, len(left), len(right)
+    found, i, j, most, last, count = [], 0, 0, len(left), len(right), len(lows)
     while i < most and j < last:
         a, b = left[i], right[j]
         if lows[a] < highs[b] and lows[b] < highs[a]:
@@ -56,37 +66,50 @@ def in_line(left: List[int], right: List[int], lows: Sequence[int], highs: Seque
     return found
 
 
-def overlapping(left: List[int], right: List[int], columns: Columns, places: Sequence[int], count: int) -> List[int]:
-    """The pairs of a left and a right box that overlap in all of some variables, as whole numbers; some of them twice. Both
-    lists are cut in two until few are left."""
-    found: List[int] = []
-    sides = [(columns[2 * k], columns[2 * k + 1]) for k in places]
-    waiting = [(left, right, 0)]
-    while waiting:
-        left, right, turn = waiting.pop()
-        halves = None if len(left) * len(right) <= FEW else halved(left, right, sides, turn)
-        if halves is not None:
-            waiting += halves
-            continue
-        for a in left:
-            some = [b for b in right if b != a]
-            for lows, highs in sides:
-                low, high = lows[a], highs[a]
-                some = [b for b in some if lows[b] < high and low < highs[b]]
-            found += [a * count + b for b in some]
-    return found
+def share_no_face(first: Ends, second: Ends, flat: int) -> bool:
+    """Whether two boxes are apart, or meet in one number alone in more than so many places."""
+    if len(first) == 4:  # the usual case, without a loop
+        (a, b, c, d), (e, f, g, h) = first, second
+        low, high, bottom, top = (a if a > e else e), (b if b < f else f), (c if c > g else g), (d if d < h else h)
+        return low > high or bottom > top or (low == high) + (bottom == top) > flat
+    count = 0
+    for k in range(0, len(first), 2):
+        low = first[k] if first[k] > second[k] else second[k]
+        high = first[k + 1] if first[k + 1] < second[k + 1] else second[k + 1]
+        if low >= high:
+            count += 1
+            if low > high or count > flat:
+                return True
+    return False
 
 
-def halved(left: List[int], right: List[int], sides: Sequence[Tuple[Sequence[int], Sequence[int]]], turn: int
-           ) -> Optional[List[Tuple[List[int], List[int], int]]]:
-    """What lies on either side of a middle end of a variable, the next one in turn in which that parts them; None where none
-    does."""
-    for k in range(turn, turn + len(sides)):
-        lows, highs = sides[k % len(sides)]
-        ends = sorted(chain(map(lows.__getitem__, left), map(lows.__getitem__, right)))
-        middle = ends[len(ends) // 2]
-        below = [a for a in left if lows[a] < middle], [b for b in right if lows[b] < middle]
-        above = [a for a in left if highs[a] > middle], [b for b in right if highs[b] > middle]
-        if 4 * sum(map(len, chain(below, above))) < 7 * len(ends):
-            return [(*below, k + 1), (*above, k + 1)]
-    return None
+class Faces(Forest):
+    """The pairs of inner boxes of some trees that share a face or more."""
+
+    def __init__(self, trees: Sequence[Tree], flat: int) -> None:
+        super().__init__(trees, "I", 0)
+        self.trees, self.flat = trees, flat
+        self.parted = self.share_no_face  # parts that meet in less than a face have no pair of neighbours
+        self.firsts, self.seconds = array("q"), array("q")
+        self.grow()
+
+    def share_no_face(self, first: Ends, second: Ends, _gap: int) -> bool:
+        """Whether two parts have no neighbours."""
+        return share_no_face(first, second, self.flat)
+
+    def are_one(self, first: int, second: int) -> bool:
+        """Nothing is passed over here, as each pair of neighbours is wanted."""
+        return False
+
+    def join(self, first: int, second: int) -> None:
+        """Notes two leaves that share a face."""
+        self.firsts.append(first)
+        self.seconds.append(second)
+
+    def keys(self, count: int) -> List[int]:
+        """The pairs as whole numbers, by the numbers of the boxes."""
+        number_of, number = array("q", bytes(8 * len(self.ends))), 0
+        for k, kind in enumerate("".join([tree.kinds for tree in self.trees])):
+            if kind == "I":
+                number_of[k], number = number, number + 1
+        return [number_of[a] * count + number_of[b] for a, b in zip(self.firsts, self.seconds)]

@@ -38,7 +38,7 @@ class Passages:
         self.trees, self.flat, self.reach = trees, FLAT + len(fixed), reach
         self.nodes: List[Tuple[int, int]] = [(t, k) for t, tree in enumerate(trees) for k in tree.leaves("I")]
         places = [k for k in range(trees[0].dims) if k not in fixed]
-        self.first_near, self.near = neighbours(self.columns(), places, len(self.nodes))
+        self.first_near, self.near = neighbours(trees, self.columns(), places, self.flat)
         self.lows, self.highs = self.sides()
 
     def columns(self) -> List[List[int]]:
