@@ -32,12 +32,9 @@ class Forest:
 
     def scales(self, trees: Sequence[Tree], gap: Exact) -> List[Optional[List[int]]]:
         """The whole numbers that are compared in place of ends: with one tree and no gap the ends themselves."""
-        if not gap and len(trees) == 1:
-            return [None]
-        shift = max(tree.table.shift for tree in trees)
-        scaled = Fraction(gap) * (1 << shift)
+        scaled = Fraction(gap) * (1 << max(tree.table.shift for tree in trees))
         self.gap = scaled.numerator // scaled.denominator
-        return [[value << shift - tree.table.shift for value in tree.table.values] for tree in trees]
+        return scales_of(trees, bool(gap))
 
     def add(self, tree: Tree, letters: str, scale: Optional[List[int]]) -> None:
         """Adds the nodes of a tree."""
@@ -124,6 +121,15 @@ class Forest:
                 pairs += ((in_a[0], b), (in_a[1], b))
             else:
                 pairs += ((a, in_b[0]), (a, in_b[1]))
+
+
+def scales_of(trees: Sequence[Tree], measured: bool = False) -> List[Optional[List[int]]]:
+    """The whole numbers that stand for the ends of each tree and are compared with those of the others; None for the ends
+    themselves, where there is one tree and nothing is measured."""
+    if not measured and len(trees) == 1:
+        return [None]
+    shift = max(tree.table.shift for tree in trees)
+    return [[value << shift - tree.table.shift for value in tree.table.values] for tree in trees]
 
 
 def apart(first: Ends, second: Ends, gap: int) -> bool:

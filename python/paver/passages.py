@@ -4,14 +4,16 @@ from __future__ import annotations
 
 import math
 from array import array
+from bisect import bisect_left
 from heapq import heappop, heappush
-from itertools import accumulate, chain
-from typing import TYPE_CHECKING, Collection, Dict, List, Optional, Sequence, Tuple
+from itertools import accumulate
+from typing import TYPE_CHECKING, Collection, List, Optional, Sequence, Tuple
 
 from .box import Box, Exact
-from .clusters import Forest
+from .clusters import Forest, scales_of
+from .faces import neighbours
 from .numbers import nextafter
-from .tree import Ends, Tree, columns_of_ends, without_collection
+from .tree import Tree, columns_of_ends, without_collection
 
 if TYPE_CHECKING:
     from .cover import Cover
@@ -27,81 +29,40 @@ def distance(first: FloatPoint, second: FloatPoint) -> float:
     return math.dist(first, second)
 
 
-def share_no_face(first: Ends, second: Ends, flat: int) -> bool:
-    """Whether two boxes are apart, or meet in one number alone in more than so many places."""
-    if len(first) == 4:  # the usual case, without a loop
-        (a, b, c, d), (e, f, g, h) = first, second
-        low, high, bottom, top = (a if a > e else e), (b if b < f else f), (c if c > g else g), (d if d < h else h)
-        return low > high or bottom > top or (low == high) + (bottom == top) > flat
-    count = 0
-    for k in range(0, len(first), 2):
-        low = first[k] if first[k] > second[k] else second[k]
-        high = first[k + 1] if first[k + 1] < second[k + 1] else second[k + 1]
-        if low >= high:
-            count += 1
-            if low > high or count > flat:
-                return True
-    return False
-
-
-class Passages(Forest):
+class Passages:
     """The inner boxes of some trees, numbered in preorder, as a graph: two are neighbours where they meet in a face or more.
-    `fixed` counts the variables whose domain is one number, which are no places to move in; `reach` stands for infinite ends,
-    and is beyond all finite ones."""
+    `fixed` are the variables whose domain is one number, which are no places to move in; `reach` stands for infinite ends, and
+    is beyond all finite ones."""
 
-    def __init__(self, trees: Sequence[Tree], fixed: int, reach: float) -> None:
-        super().__init__(trees, "I", 0)
-        self.trees, self.flat, self.reach = trees, FLAT + fixed, reach
-        self.parted = self.share_no_face  # parts that meet in less than a face have no pair of neighbours
-        self.firsts, self.seconds = array("q"), array("q")
+    def __init__(self, trees: Sequence[Tree], fixed: Collection[int], reach: float) -> None:
+        self.trees, self.flat, self.reach = trees, FLAT + len(fixed), reach
         self.nodes: List[Tuple[int, int]] = [(t, k) for t, tree in enumerate(trees) for k in tree.leaves("I")]
-        self.numbers: Dict[Tuple[int, int], int] = {node: number for number, node in enumerate(self.nodes)}
-        self.grow()
-        self.first_near, self.near = self.neighbours()
+        places = [k for k in range(trees[0].dims) if k not in fixed]
+        self.first_near, self.near = neighbours(trees, self.columns(), places, self.flat)
         self.lows, self.highs = self.sides()
 
-    def share_no_face(self, first: Ends, second: Ends, _gap: int) -> bool:
-        """Whether two parts have no neighbours."""
-        return share_no_face(first, second, self.flat)
-
-    def are_one(self, first: int, second: int) -> bool:
-        """Nothing is passed over here, as each pair of neighbours is wanted."""
-        return False
-
-    def join(self, first: int, second: int) -> None:
-        """Notes two leaves that share a face."""
-        self.firsts.append(first)
-        self.seconds.append(second)
-
-    def neighbours(self) -> Tuple[List[int], array[int]]:
-        """Where each box's neighbours begin, and all neighbours, those of one box after those of another."""
-        count, starts = len(self.nodes), [0]
-        for tree in self.trees:
-            starts.append(starts[-1] + len(tree.kinds))
-        number_of = array("q", bytes(8 * starts[-1]))
-        for number, (t, k) in enumerate(self.nodes):
-            number_of[starts[t] + k] = number
-        firsts, seconds = [number_of[k] for k in self.firsts], [number_of[k] for k in self.seconds]
-        keys = [a * count + b for a, b in zip(firsts, seconds)]
-        keys += [b * count + a for a, b in zip(firsts, seconds)]
-        keys.sort()
-        degrees = [0] * (count + 1)
-        for number in chain(firsts, seconds):
-            degrees[number + 1] += 1
-        return list(accumulate(degrees)), array("q", [key % count for key in keys])
+    def columns(self) -> List[List[int]]:
+        """The ends of all boxes as whole numbers that are in order, a column an end."""
+        found: List[List[int]] = [[] for _ in range(2 * self.trees[0].dims)]
+        for tree, scale in zip(self.trees, scales_of(self.trees)):
+            for whole, column in zip(found, columns_of_ends(tree.ends_of("I"))):
+                whole += column if scale is None else map(scale.__getitem__, column)
+        return found
 
     def sides(self) -> Tuple[List[array[float]], List[array[float]]]:
         """The lower and the upper ends of all boxes as floats, an array a variable."""
         columns: List[array[float]] = [array("d") for _ in range(2 * self.trees[0].dims)]
         for tree in self.trees:
-            sides = [[min(max(end, -self.reach), self.reach) for end in tree.table.floats(up)] for up in (False, True)]
+            sides = [tree.table.floats(up) for up in (False, True)]
+            if tree.table.has_infinite:
+                sides = [[min(max(end, -self.reach), self.reach) for end in side] for side in sides]
             for k, column in enumerate(columns_of_ends(tree.ends_of("I"))):
                 columns[k].extend(map(sides[k % 2].__getitem__, column))
         return columns[::2], columns[1::2]
 
     def holding(self, point: Sequence[Exact]) -> List[int]:
         """The inner boxes that hold a point."""
-        return [self.numbers[node] for node in leaves_holding(self.trees, point, "I")]
+        return [bisect_left(self.nodes, node) for node in leaves_holding(self.trees, point, "I")]
 
     def box(self, number: int, names: Optional[Sequence[str]]) -> Box:
         """An inner box by its number."""
@@ -234,8 +195,9 @@ def passages_of(cover: Cover, points: Sequence[Sequence[Exact]]) -> Passages:
     """The graph of a paving's inner boxes, for ways between some points."""
     trees = [paving.tree for paving in cover.roots()]
     roots = [Box("open", root).exact for root in cover.search_boxes()]
-    fixed = sum(all(root[k] == roots[0][k] and root[k][0] == root[k][1] for root in roots) for k in range(cover.dims or 0))
-    finite = [abs(end) for tree in trees for end in tree.table.floats(True) if abs(end) != float("inf")]
+    fixed = [k for k in range(cover.dims or 0) if all(root[k] == roots[0][k] and root[k][0] == root[k][1] for root in roots)]
+    last = [end for tree in trees for floats in [tree.table.floats(True)] for end in (*floats[:2], *floats[-2:])]
+    finite = [abs(end) for end in last if abs(end) != float("inf")]
     reach = max([*finite, *(abs(float(x)) for point in points for x in point)], default=0.0)
     with without_collection():
         return Passages(trees, fixed, nextafter(2 * reach + 2, float("inf")))

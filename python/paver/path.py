@@ -9,7 +9,9 @@ from typing import TYPE_CHECKING, List, Sequence, Set
 from .box import Box
 from .numbers import counted, decimal
 from .passages import FLAT, Passages, distance, passages_of, touching
-from .straight import Point, Portal, crossed, exactly, fewer, inside, passes, pulled
+from .straight import (
+    Point, Portal, WholePortal, crossed, exactly, fewer, in_units, inside, passes, portal_in_units, pulled, unit_of,
+)
 
 if TYPE_CHECKING:
     from .cover import Cover, Writer
@@ -52,16 +54,21 @@ class Path:
         """PathFault where a segment leaves its boxes, or two boxes that follow each other share less than a face: exactly."""
         if len(self.boxes) != max(0, len(self.points) - 1):
             raise PathFault("a segment has no boxes")
-        chain: List[Portal] = [portal_of(box) for some in self.boxes for box in some]
+        exact = [[portal_of(box) for box in some] for some in self.boxes]
+        finite = [abs(end) for some in exact for portal in some for pair in portal for end in pair if isinstance(end, Fraction)]
+        reach = 1 + max([*finite, *(abs(x) for point in self.points for x in point)], default=Fraction(0))
+        exact = [[bounded(portal, reach) for portal in some] for some in exact]
+        unit = unit_of([*self.points, *(pair for some in exact for portal in some for pair in portal)])
+        points = [in_units(point, unit) for point in self.points]
+        pieces = [[portal_in_units(portal, unit) for portal in some] for some in exact]
+        chain = [portal for some in pieces for portal in some]
         for first, second in zip(chain, chain[1:]):
             shared = crossed(first, second)
             if any(low > high for low, high in shared) or sum(low == high for low, high in shared) > FLAT + self.fixed:
                 raise PathFault("two boxes that follow each other share no face")
-        for k, some in enumerate(self.boxes):
-            first, second = self.points[k], self.points[k + 1]
-            pieces = [portal_of(box) for box in some]
-            if not (pieces and holds(pieces[0], first) and holds(pieces[-1], second)
-                    and passes(first, second, list(map(crossed, pieces, pieces[1:])))):
+        for k, some in enumerate(pieces):
+            if not (some and holds(some[0], points[k]) and holds(some[-1], points[k + 1])
+                    and passes(points[k], points[k + 1], list(map(crossed, some, some[1:])))):
                 raise PathFault(f"segment {k + 1} leaves its inner boxes")
 
     def rows(self) -> List[List[str]]:
@@ -84,7 +91,12 @@ def portal_of(box: Box) -> Portal:
     return [(low, high) for low, high in box.exact]  # type: ignore[misc]
 
 
-def holds(portal: Portal, point: Point) -> bool:
+def bounded(portal: Portal, reach: Fraction) -> Portal:
+    """What of a portal lies within the reach of 0: an infinite end ends there."""
+    return [(max(low, -reach), min(high, reach)) for low, high in portal]
+
+
+def holds(portal: WholePortal, point: Sequence[int]) -> bool:
     return all(low <= x <= high for x, (low, high) in zip(point, portal))
 
 
@@ -129,8 +141,7 @@ def point_of(paving: Cover, given: Given) -> Point:
 def draw(answer: Path, boxes: Sequence[Box], graph: Passages) -> None:
     """Gives an answer the points of a path through boxes, and for each segment its boxes."""
     reach = Fraction(graph.reach)
-    shared = [[(max(low, -reach), min(high, reach)) for low, high in crossed(portal_of(first), portal_of(second))]
-              for first, second in zip(boxes, boxes[1:])]
+    shared = [bounded(crossed(portal_of(first), portal_of(second)), reach) for first, second in zip(boxes, boxes[1:])]
     sides = list(map(inside, shared))
     bends = pulled([float(x) for x in answer.start], [float(x) for x in answer.goal], sides)
     points = [answer.start, *exactly(bends, shared, sides), answer.goal]

@@ -6,12 +6,14 @@ from __future__ import annotations
 
 import math
 from fractions import Fraction
-from typing import List, Sequence, Tuple
+from typing import Iterable, List, Sequence, Tuple, TypeVar
 
 from .passages import FloatPoint, distance
 
 Point = Tuple[Fraction, ...]
 Portal = Sequence[Tuple[Fraction, Fraction]]
+WholePortal = Sequence[Tuple[int, int]]  # its ends as so many units
+Number = TypeVar("Number", int, Fraction)
 Sides = Tuple[List[float], List[float]]  # the lower and the upper ends of a portal
 Bend = Tuple[int, FloatPoint]  # the number of a portal, and a point in it
 MARGIN = 1024  # a bend stays this part of a portal's width from its ends, so that rounding keeps straight pieces within
@@ -20,7 +22,7 @@ ROUNDS, SWEEPS = 40, 30
 CLOSE = 1e-13  # of the way's extent: less is a fault of floats
 
 
-def crossed(first: Portal, second: Portal) -> Portal:
+def crossed(first: Sequence[Tuple[Number, Number]], second: Sequence[Tuple[Number, Number]]) -> List[Tuple[Number, Number]]:
     """What two boxes that touch share."""
     return [(max(a, c), min(b, d)) for (a, b), (c, d) in zip(first, second)]
 
@@ -138,20 +140,42 @@ def exactly(bends: Sequence[Bend], portals: Sequence[Portal], sides: Sequence[Si
     return found
 
 
-def passes(first: Point, second: Point, portals: Sequence[Portal]) -> bool:
-    """Whether a straight piece goes through portals in turn: then each part of it lies in the box between two of them."""
+def unit_of(points: Iterable[Sequence[Fraction]]) -> int:
+    """The least number with which all numbers of points are whole."""
+    unit = 1
+    for denominator in {x.denominator for point in points for x in point}:
+        unit *= denominator // math.gcd(unit, denominator)
+    return unit
+
+
+def in_units(point: Sequence[Fraction], unit: int) -> List[int]:
+    """The numbers of a point as so many units, which are whole."""
+    return [x.numerator * (unit // x.denominator) for x in point]
+
+
+def portal_in_units(portal: Portal, unit: int) -> WholePortal:
+    """The ends of a portal as so many units."""
+    return [(low.numerator * (unit // low.denominator), high.numerator * (unit // high.denominator)) for low, high in portal]
+
+
+def passes(first: Sequence[int], second: Sequence[int], portals: Sequence[WholePortal]) -> bool:
+    """Whether a straight piece goes through portals in turn: then each part of it lies in the box between two of them. All
+    numbers are whole, and shares of the piece are compared by products."""
     along = [b - a for a, b in zip(first, second)]
-    begun = Fraction(0)  # the share of the piece that is behind
+    begun, begun_of = 0, 1  # the share of the piece that is behind
     for portal in portals:
-        last = Fraction(1)
+        last, last_of = 1, 1
         for a, d, (low, high) in zip(first, along, portal):
             if d == 0:
                 if not low <= a <= high:
                     return False
                 continue
-            enter, leave = ((low - a) / d, (high - a) / d) if d > 0 else ((high - a) / d, (low - a) / d)
-            begun, last = max(begun, enter), min(last, leave)
-        if begun > last:
+            enter, leave, d = (low - a, high - a, d) if d > 0 else (a - high, a - low, -d)
+            if enter * begun_of > begun * d:
+                begun, begun_of = enter, d
+            if leave * last_of < last * d:
+                last, last_of = leave, d
+        if begun * last_of > last * begun_of:
             return False
     return True
 
@@ -159,6 +183,8 @@ def passes(first: Point, second: Point, portals: Sequence[Portal]) -> bool:
 def fewer(points: Sequence[Point], portals: Sequence[Portal], bends: Sequence[int]) -> List[int]:
     """The numbers of points that are enough, the first and the last one among them: pieces between them pass all portals. A
     piece is tried to the next bends first, then to half as far."""
+    unit = unit_of([*points, *(pair for portal in portals for pair in portal)])
+    wholes, gates = [in_units(point, unit) for point in points], [portal_in_units(portal, unit) for portal in portals]
     found, last = [0], len(points) - 1
     while found[-1] < last:
         i = found[-1]
@@ -167,5 +193,5 @@ def fewer(points: Sequence[Point], portals: Sequence[Portal], bends: Sequence[in
         while far > i + 1:
             ahead.append(far)
             far = i + (far - i) // 2
-        found.append(next((j for j in ahead if passes(points[i], points[j], portals[i:j - 1])), i + 1))
+        found.append(next((j for j in ahead if passes(wholes[i], wholes[j], gates[i:j - 1])), i + 1))
     return found
