@@ -13,7 +13,7 @@ PavingOf = Callable[[argparse.Namespace], Tuple[Paving, List[str]]]
 INNER = "every rational point of it is in the set: each segment was compared with its boxes by exact fractions"
 UNDECIDED = ("undecided boxes may join them: a smaller --eps, or more --boxes where leaves are open, may decide that")
 PARTED = ("the boxes that are kept fall into parts, and the two points are in two of them: each way from one to the other, "
-          "within the search box, leaves the kept boxes, and where it does none of its rational points is in the set")
+          "within the search box, leaves the kept boxes; no rational point of it outside them is in the set")
 OUT = "it lies in removed boxes alone, and is not in the set"
 REAL = ("for points that are not rational this holds if each constraint is < or > of what is continuous; else widen <= and = "
         "by a little and ask again")
