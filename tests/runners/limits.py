@@ -13,7 +13,6 @@ import shutil
 import signal
 import subprocess
 import time
-from collections.abc import Iterable
 
 from tests.data.cases import system
 from tests.runners.outside import PRINTING, RING, KeptTest
@@ -41,12 +40,6 @@ DEEP = [system("x", "(" * 100 + "x" + ")" * 100 + "<=1"), system("x", "-" * 999 
         # trees of 1,999 nodes on the way down; 2,000 are taken at the most
         b"Variables x; function f(a) return " + b"-" * 999 + b"a; end Constraints " + b"-" * 999 + b"f(x) <= 1; end\n",
         b"Variables x; function f(a) return a" + b"+1" * 999 + b"; end Constraints f(x)" + b"+1" * 999 + b" <= 1; end\n"]
-
-# Calls of each command over a deep text `s` and its paving `p`, and the file that is stored.
-DEEP_CALLS = [(["check", "s"], None), (["run", "s", "--boxes", "9"], None), (["run-centered", "s", "--boxes", "9"], None),
-              (["run", "s", "--boxes", "9", "--workers", "4", "--out", "new"], "new"),
-              (["least", "s", "--of", "x" + "+1" * 999, "--boxes", "9"], None), (["svg", "s", "p", "--x", "x", "--y", "y"], None),
-              (["audit", "s", "p"], None), (["merge", "s", "p", "p"], None), (["resume", "s", "p", "--boxes", "9"], None)]
 
 
 class Limits(KeptTest):
@@ -159,70 +152,40 @@ class Limits(KeptTest):
                 self.assertEqual((child.stdout.read(), child.wait(SECONDS)), (summary, 0))
             self.assertEqual(self.get("p"), self.get("whole"))
 
-    def limited(self, words: list[str], limit: int) -> subprocess.CompletedProcess[bytes]:
-        return self.call(*words, preexec_fn=lambda: resource.setrlimit(resource.RLIMIT_AS, (limit, limit)))
-
-    def loaded(self) -> int:
-        """The least address space with which the loader runs. With less the system itself ends a program, by a signal."""
-        return next(limit for limit in range(400 * 4096, 1 << 24, 4096) if self.limited(["check", "no"], limit).returncode >= 0)
-
-    def starved(self, words: list[str], stored: str | None, limits: Iterable[int]) -> None:
-        """Calls with these address spaces, until the answer has stood eight times: it is the right one, or want of memory with
-        its line, or the loader's 127; files are as they were, and a stored one is whole."""
-        wanted = self.call(*words)
-        new = self.get(stored) if stored else None
-        right = 0
-        for limit in limits:
-            if stored:
-                (self.path / stored).unlink(missing_ok=True)
-            before = self.files()
-            done = self.limited(words, limit)
-            now = self.files()
-            held = now.pop(stored, None) if stored else None
-            self.assertEqual(now, before, (words, limit))
-            self.assertIn(held, (new, None), (words, limit))
-            if done.returncode == wanted.returncode:
-                self.assertEqual((done.stdout, done.stderr, held), (wanted.stdout, wanted.stderr, new), (words, limit))
-                right += 1
-            elif done.returncode != 127:
-                self.assertEqual(done.returncode, 7, (words, limit, done))
-                self.assertIn(done.stderr, (b"want of memory\n", b""), (words, limit, done))
-                self.assertTrue(wanted.stdout.startswith(done.stdout), (words, limit))
-            # with four workers a thread that is late may still find no room
-            if right == 8:
-                return
-        self.fail(f"{words}: {right} right answers")
+    def starts(self, words: list[str], limit: int) -> bool:
+        """Whether the program begins at all with so much address space: the loader says 127 where it doesn't."""
+        done = self.call(*words, preexec_fn=lambda: resource.setrlimit(resource.RLIMIT_AS, (limit, limit)))
+        return done.returncode not in (127, -signal.SIGSEGV, -signal.SIGKILL)
 
     def test_little_memory(self) -> None:
-        """Address space in steps of 16 KiB: each command answers rightly or says that memory is wanting."""
+        """Address space in steps of 16 KiB from the least with which the program starts, until the answer stands: it is the
+        right one, or want of memory with its line; files are as they were, and a stored one is whole."""
         self.prepared()
-        least = self.loaded()
+        least = next(limit for limit in range(400 * 4096, 1 << 24, 16 << 10) if self.starts(["check", "no"], limit))
         for words, stored in STARVED:
-            self.starved(words, stored, range(least, 1 << 27, 16 << 10))
-
-    def test_deep_texts_in_little_memory(self) -> None:
-        """The deepest texts likewise, by every command: their stack is there from the start. In steps of 4 KiB if COUNT is set,
-        else of 68 KiB, which meet each page in 17 calls."""
-        least, step = self.loaded(), 4096 if "COUNT" in os.environ else 17 * 4096
-        for turn, text in enumerate(DEEP[3:]):
-            self.put("s", text.replace(b"Variables x;", b"Variables x, y;"))
-            self.call("run", "s", "--boxes", "9", "--out", "p")
-            for at, (words, stored) in enumerate(DEEP_CALLS):
-                first = least + 4096 * ((turn + at) % 17 if step > 4096 else 0)
-                self.starved(words, stored, range(first, 1 << 27, step))
-            self.starved_campaign(range(least, 1 << 24, step))
-
-    def starved_campaign(self, limits: Iterable[int]) -> None:
-        """A campaign likewise, whose database may be begun."""
-        seen = set()
-        for limit in limits:
-            for name in self.files():
-                if name.startswith("k"):
-                    (self.path / name).unlink()
-            done = self.limited(["campaign", "s", "--keep", "k", "--rounds", "1", "--boxes", "9"], limit)
-            self.assertIn(done.returncode, (127, 7, 1), (limit, done))
-            seen.add(done.returncode)
-        self.assertLessEqual({7, 1}, seen)
+            wanted = self.call(*words)
+            new = self.get(stored) if stored else None
+            right = 0
+            for limit in range(least, 1 << 27, 16 << 10):
+                if stored:
+                    (self.path / stored).unlink(missing_ok=True)
+                before = self.files()
+                done = self.call(*words, preexec_fn=lambda limit=limit: resource.setrlimit(resource.RLIMIT_AS, (limit, limit)))
+                now = self.files()
+                held = now.pop(stored, None) if stored else None
+                self.assertEqual(now, before, (words, limit))
+                self.assertIn(held, (new, None), (words, limit))
+                if done.returncode == wanted.returncode:
+                    self.assertEqual((done.stdout, done.stderr, held), (wanted.stdout, wanted.stderr, new), (words, limit))
+                    right += 1
+                else:
+                    self.assertEqual(done.returncode, 7, (words, limit, done))
+                    self.assertIn(done.stderr, (b"want of memory\n", b""), (words, limit, done))
+                    self.assertTrue(wanted.stdout.startswith(done.stdout), (words, limit))
+                # with four workers a thread that is late may still find no room
+                if right == 8:
+                    break
+            self.assertEqual(right, 8, words)
 
     def test_small_disk(self) -> None:
         """A disk that is full in the middle of a store: a fault, and no word printed. Needs the right to mount one."""

@@ -7,16 +7,12 @@ use pv_hints::tell_hint;
 use pv_io::{Folder, RealFolder, RealSink, Sink};
 use pv_keep_sql::FileKeeper;
 use pv_progress::{Clearing, Progress};
-use std::alloc::Global;
 use std::env;
 use std::env::Env;
 use std::io::ErrorKind;
 use std::process::ExitCode;
 use std::sync::Wait;
 use std::thread::Threads;
-
-// More bytes than the deepest text takes.
-const STACK: usize = 1_500_000;
 
 fn main(rt: HostRuntime) -> ExitCode {
     let progress = Progress::new(&rt);
@@ -61,31 +57,12 @@ fn answer<F: Folder, K: Sink, E: Sink, R: Threads + Wait + Sync>(
     status
 }
 
-// The words of the command line. The first one is the program's name.
+// The words of the command line, of which the first is the program's name.
 fn words<R: Env + AllocGlobal>(rt: &R) -> Result<Vec<String>, Unread> {
-    let words: Vec<String> = match env::args(rt) {
-        Ok(words) => words.collect(rt.alloc()).map_err(|_| Unread::Memory)?,
-        Err(error) => return Err(unread_by(error.kind())),
-    };
-    if takes_stack(rt.alloc(), words.len()) {
-        Ok(words)
-    } else {
-        Err(Unread::Memory)
+    match env::args(rt) {
+        Ok(words) => words.collect(rt.alloc()).map_err(|_| Unread::Memory),
+        Err(error) => Err(unread_by(error.kind())),
     }
-}
-
-// Takes the stack that the deepest text needs, and answers whether there was room. A stack that
-// can't grow later ends a program without a word. `count` keeps the compiler from leaving it out.
-#[inline(never)]
-fn takes_stack(alloc: Global, count: usize) -> bool {
-    let probe: Result<Vec<u8>, _> = Vec::with_capacity(alloc, 2 * STACK);
-    if probe.is_err() {
-        return false;
-    }
-    drop(probe);
-    let byte = (count % 256) as u8;
-    let stack = [byte; STACK];
-    stack[count % STACK] == byte
 }
 
 fn unread_by(kind: ErrorKind) -> Unread {
