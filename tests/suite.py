@@ -3,7 +3,7 @@
     python3 -m tests.suite [--jobs N] [NAME..]     all runners, or those that are named
 
 at the top of the repository, with `python` on PYTHONPATH. Most run side by side, one for each processor. Those that take
-several processors or much memory run by themselves afterwards. What a
+several processors or much memory, or start clusters whose ports are theirs alone, run by themselves afterwards. What a
 runner printed is shown where it failed; what was skipped is listed at the end.
 """
 from __future__ import annotations
@@ -24,15 +24,14 @@ TOP = Path(__file__).resolve().parents[1]
 
 # The longest come first.
 SIDE_BY_SIDE = (
-    "crashes", "sweep", "package_tools", "package_answers", "rendered", "end_to_end", "shares", "campaigns", "allocations",
+    "crashes", "package_tools", "package_answers", "rendered", "end_to_end", "shares", "campaigns", "allocations",
     "campaign_allocations", "fuzz_systems", "fuzz_words", "fuzz_files", "fuzz_reader", "fuzz_databases", "paving_files",
     "stores", "tables", "readme", "least_values", "package_control", "package_decide", "package_fit", "package_holes",
     "package_installed", "package_path", "package_robot", "package_checks", "package_pavings", "package_misuse",
-    "package_refusals", "package_users", "package_parts", "package_stages", "package_around", "first_look", "limits",
-    "outside", "faulty_calls", "schedules", "fuzz_options", "soaking", "reader_table", "scenes", "formats", "forms", "hints",
-    "reading", "listed",
+    "package_refusals", "package_users", "package_parts", "package_stages", "package_around", "faulty_calls", "schedules",
+    "fuzz_options", "soaking", "reader_table", "scenes", "formats", "forms", "hints", "reading", "listed",
 )
-ALONE = ("sizes", "workers", "progress", "scaling", "test_view")
+ALONE = ("outside", "limits", "sizes", "workers", "progress", "sweep", "scaling", "test_view", "first_look")
 # Modules of the folder that are no runners: what runners share, and one for several.
 SHARED = ("test_python", "running", "browser", "package_test", "soundness", "trapping", "view_pixels")
 

@@ -94,7 +94,8 @@ def altered(source: random.Random, rows: Iterable[Row]) -> list[Row]:
         rows = [row for row in rows if row[0] != path] + [(path, source.choice(LINES))]
     elif kind == 3:
         path = source.choice(["2", "0 ", "x", ".", "٠", "-", "0\0", "\n"])
-        rows.append((path, "X"))
+        if path not in dict(rows):
+            rows.append((path, "X"))
     elif kind == 4 and len(rows) > 1:
         other = source.randrange(len(rows))
         rows[at], rows[other] = (rows[at][0], rows[other][1]), (rows[other][0], rows[at][1])

@@ -111,9 +111,10 @@ class FuzzOptions(FolderTest):
         self.is_as(wanted, "run", [], *words, any_leaves=order == "depth" and workers > 1)
         self.tree = self.known.read("p", self.known.run(budget, "p")[3] or b"")
         rounds, workers = self.source.randint(1, 4), self.workers()
+        # Which of several open leaves a second round begins with is said nowhere, by one worker neither.
         wanted = (*self.known.run(budget * rounds, "k")[:3], None)
         self.is_as(wanted, "campaign", [], "--keep=k", f"--rounds={rounds}", f"--boxes={budget}", f"--workers={workers}",
-                   any_leaves=workers > 1)
+                   any_leaves=rounds > 1 or workers > 1)
 
     def gone_on_with(self) -> None:
         """Files of parts of the paving: joined, shared out, gone on with in an order, audited."""
@@ -125,7 +126,7 @@ class FuzzOptions(FolderTest):
         more, out, order, workers = self.pick(BUDGETS), self.pick([None, "o"]), self.pick(ORDERS), self.workers()
         self.is_as(answer(lambda: self.known.merge(named, out)), "merge", names)
         self.is_as(answer(lambda: self.known.resume(named, more, out, order)), "resume", names, f"--boxes={more}",
-                   f"--order={order}", f"--workers={workers}", any_leaves=order == "depth" and workers > 1)
+                   f"--order={order}", f"--workers={workers}", any_leaves=order == "depth")
         of = self.pick([1, 2, 3, 7, 1_000_000])
         number = self.source.randrange(min(of, 9))
         self.is_as(answer(lambda: self.known.resume(named, more, out, share=(number, of))), "resume", names,
