@@ -13,7 +13,7 @@ use std::time::Duration;
 // How long the first call may take before the others begin: about what it costs to begin them.
 const PATIENCE_MILLIS: u64 = 1;
 
-/// Calls `f(i, &mut s[i])` at each place, each in a thread of its own where one can be made. The
+/// Calls `f(i, &mut s[i])` at each place, each in a thread of its own if one can be made. The
 /// caller begins them all, and waits; a single call is its own.
 ///
 /// `for_each_mut` of `std::thread` has the caller work, too. The kernel may leave a new thread on its
@@ -35,7 +35,7 @@ pub fn for_each_apart<R: Threads + Sync, T: Send, F: Fn(usize, &mut T) + Sync>(
 
 /// Calls `f(i, &mut s[i])` at each place, at most `threads` of them at once. The first begins in a
 /// thread of its own, the others once it has taken a millisecond: for calls that find nothing to do
-/// where the first ends before. The caller makes those, and those that are too many, one by one
+/// if the first ends before. The caller makes those, and those that are too many, one by one
 /// after the others.
 pub fn for_each_late<R: Threads + Wait + Sync, T: Send, F: Fn(usize, &mut T) + Sync>(
     rt: &R,

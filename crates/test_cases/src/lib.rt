@@ -44,8 +44,8 @@ pub fn domains(alloc: Global, system: &System) -> Result<IBox, Memory>
     Ok(IBox::new(parts))
 }
 
-/// Whether a box of two places has these ends; None where they are no intervals or the box has
-/// other places.
+/// Whether a box of two places has these ends; None if they are no intervals or the box has other
+/// places.
 pub fn is_left(bx: &IBox, x: Ends, y: Ends) -> Option<bool> {
     if bx.dims() != 2 {
         return None;
