@@ -232,12 +232,14 @@ class Page(unittest.TestCase):
         self.assertGreater(browser.value(edges), 20)
         browser.value("document.querySelector('[name=mode][value=projection]').click()")
         browser.drawn()
-        self.assertEqual(browser.value(edges), 0)
         x, y, *_ = self.place(2.0, 0.0)
-        for _ in range(4):
+        seen = []
+        for _ in range(5):
             browser.wheel(x, y, -240)
             browser.drawn()
-        self.assertGreater(browser.value(edges), 0)
+            seen.append(browser.value(edges))
+        self.assertEqual(seen[0], 0, seen)
+        self.assertGreater(seen[4], 0, seen)
 
     # ---- moving
 
